@@ -1,0 +1,8 @@
+//! Numbers, halves, values and events: the words that every other crate speaks in.
+#![tactic(auto)]
+
+mod numbers;
+mod values;
+
+pub use numbers::{Chan, Comp, Dir, EntryNo, Half, Side};
+pub use values::{Event, Values};
