@@ -1,0 +1,10 @@
+//! Event types with their subtypes, port types, and the selectors of channels.
+#![tactic(auto)]
+
+mod event_types;
+mod port_types;
+mod selector;
+
+pub use event_types::EventRow;
+pub use port_types::{Kinds, PortRow};
+pub use selector::{Op, Selector, Test};
