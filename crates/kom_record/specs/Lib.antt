@@ -1,0 +1,16 @@
+pub mod Bodies
+pub mod Channels
+pub mod Controls
+pub mod Entries
+pub mod Handed
+pub mod Instances
+pub mod Legal
+pub mod Model
+pub mod Offers
+pub mod Plans
+pub mod Queues
+pub mod Reaction
+pub mod Ready
+pub mod Simulated
+pub mod Time
+pub mod Views
