@@ -8,10 +8,11 @@ use Rattle.kom_events.specs.declared.event_types.EventRow.{EventRow}
 abbrev pub parent_of : List EventRow → ℕ → Option ℕ
 parent_of rows a = option_and_then (λ row. row.parent) (slice_get rows a)
 
--- the type itself, its parent, the parent of that and so on: the first n of them
+-- the type itself, its parent, the parent of that and so on, as far as there are rows for them:
+-- the first n of them
 abbrev pub ancestors : ℕ → List EventRow → ℕ → List ℕ
 ancestors zero rows a = []
-ancestors (suc n) rows a = a ∷ option_map_or (ancestors n rows) (parent_of rows a) []
+ancestors (suc n) rows a = option_map_or (λ row. a ∷ option_map_or (ancestors n rows) row.parent []) (slice_get rows a) []
 
 -- a is b or a descendant of b: b is reached from a by parent steps, none included. As many steps
 -- as there are rows reach all that can be reached.

@@ -1,5 +1,5 @@
 -- Which events a selector lets pass.
-use Rattle.std.specs.Prelude.{ℤ, pos, int_le, int_lt, Bool, not, ◌||◌, List, slice_index_or}
+use Rattle.std.specs.Prelude.{ℤ, pos, int_le, int_lt, Bool, not, ◌||◌, List, slice_get, unwrap_or}
 use Rattle.std.specs.List.{list_all}
 use Rattle.kom_base.specs.declared.values.Event.{Event}
 use Rattle.kom_base.specs.Numbers.{same_int}
@@ -19,7 +19,7 @@ compares Ge a b = int_le b a
 
 -- the attribute of the event compares so with the number
 abbrev pub holds : Test → Event → Bool
-holds test event = compares test.op (slice_index_or event.values test.attr (pos 0)) test.number
+holds test event = compares test.op (unwrap_or (slice_get event.values test.attr) (pos 0)) test.number
 
 -- an event that is not of the test's type passes untested
 abbrev pub passes_test : List EventRow → Event → Test → Bool

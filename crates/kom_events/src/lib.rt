@@ -5,6 +5,9 @@ mod event_types;
 mod port_types;
 mod selector;
 
-pub use event_types::EventRow;
-pub use port_types::{Kinds, PortRow};
-pub use selector::{Op, Selector, Test};
+pub use event_types::{EventRow, EventTypes, parent_cycle};
+pub use port_types::{Kinds, PortRow, PortTypes};
+pub use selector::{Op, Selector, Test, matches};
+
+#[cfg(test)]
+mod tests;
