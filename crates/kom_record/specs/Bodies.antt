@@ -1,5 +1,5 @@
 -- The bodies that a record leaves, and who is told of a fault.
-use Rattle.std.specs.Prelude.{ℕ, ◌+◌, ℤ, Bool, true, false, not, ◌||◌, ◌==◌, if◌then◌else◌, List, [], ◌∷◌, length, map, slice_get, Option, Some, None, is_none}
+use Rattle.std.specs.Prelude.{ℕ, ◌+◌, Bool, false, ◌==◌, if◌then◌else◌, List, [], ◌∷◌, length, slice_get, Option, Some, None}
 use Rattle.std.specs.List.{list_any, find, filter_map}
 use Rattle.std.specs.Option.{option_map, option_map_or}
 use Rattle.kom_lang.specs.Declarations.{Declarations, kind_of, handler_of, is_fault}
@@ -7,7 +7,7 @@ use Rattle.kom_lang.specs.Bodies.{first_body}
 use Rattle.kom_lang.specs.declared.body.Body.{Body}
 use Rattle.kom_record.specs.declared.entry.Outcome.{Outcome}
 use Rattle.kom_record.specs.declared.entry.Entry.{Entry}
-use Rattle.kom_record.specs.declared.entry.Entry.TheVariants.{Took, Did, Moved}
+use Rattle.kom_record.specs.declared.entry.Entry.TheVariants.{Did}
 use Rattle.kom_record.specs.Entries.{History, acts}
 use Rattle.kom_record.specs.Instances.{born, ancestry_of}
 use Rattle.kom_record.specs.Reaction.{body_after}

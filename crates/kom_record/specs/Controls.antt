@@ -1,5 +1,5 @@
 -- Control items: what the entries of a record put to a component, and what it got of them.
-use Rattle.std.specs.Prelude.{ℕ, Bool, true, false, ◌==◌, if◌then◌else◌, List, [], ◌∷◌, ◌++◌, length, drop, Option, Some, None, is_some}
+use Rattle.std.specs.Prelude.{ℕ, false, ◌==◌, if◌then◌else◌, List, [], ◌∷◌, ◌++◌, length, drop, Option, Some, None, is_some}
 use Rattle.std.specs.List.{list_any, flat_map, enumerate_from}
 use Rattle.std.specs.Option.{option_and_then, option_map, option_map_or}
 use Rattle.kom_base.specs.Lists.{if_so, first}
@@ -13,11 +13,10 @@ use Rattle.kom_lang.specs.Steps.{is_escalate}
 use Rattle.kom_record.specs.declared.item.Control.{Control as ControlItem}
 use Rattle.kom_record.specs.declared.item.Control.TheVariants.{Init, Start, Stop, Fault, Dump, Dumped}
 use Rattle.kom_record.specs.declared.item.Item.{Item}
-use Rattle.kom_record.specs.declared.item.Item.TheVariants.{Control, Arrival}
-use Rattle.kom_record.specs.declared.entry.Outcome.{Outcome}
+use Rattle.kom_record.specs.declared.item.Item.TheVariants.{Control}
 use Rattle.kom_record.specs.declared.entry.Outcome.TheVariants as outcome
 use Rattle.kom_record.specs.declared.entry.Entry.{Entry}
-use Rattle.kom_record.specs.declared.entry.Entry.TheVariants.{Took, Did, Moved}
+use Rattle.kom_record.specs.declared.entry.Entry.TheVariants.{Took, Did}
 use Rattle.kom_record.specs.Entries.{History, Act, acts, acts_of, item_at}
 use Rattle.kom_record.specs.Instances.{Instance, root_tree, born, created, ancestry_of, occupant}
 use Rattle.kom_record.specs.Bodies.{nearest}

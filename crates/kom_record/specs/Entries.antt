@@ -1,10 +1,9 @@
 -- A record as a history: the list of its entries, the newest first. The tail of the list at an
 -- entry is the record before that entry, and the length of that tail is the entry's position.
-use Rattle.std.specs.Prelude.{ℕ, Bool, true, false, not, ◌==◌, if◌then◌else◌, List, [], ◌∷◌, ◌++◌, length, map, filter, reverse, Option, Some, None}
+use Rattle.std.specs.Prelude.{ℕ, not, ◌==◌, if◌then◌else◌, List, [], ◌∷◌, ◌++◌, length, map, filter, reverse, Option, Some, None}
 use Rattle.std.specs.Option.{option_and_then}
 use Rattle.kom_lang.specs.declared.body.Effect.{Effect}
 use Rattle.kom_record.specs.declared.item.Item.{Item}
-use Rattle.kom_record.specs.declared.entry.Outcome.{Outcome}
 use Rattle.kom_record.specs.declared.entry.Outcome.TheVariants as outcome
 use Rattle.kom_record.specs.declared.entry.Entry.{Entry}
 use Rattle.kom_record.specs.declared.entry.Entry.TheVariants.{Took, Did, Moved}

@@ -1,5 +1,5 @@
 -- What a replacement hands over: the state of the old component, and the place in each queue.
-use Rattle.std.specs.Prelude.{◌≡◌, ◌≤◌, ◌<◌, ℕ, ℤ, List, [], ◌∷◌, ◌++◌, length, slice_get, Option, Some, None, Contains}
+use Rattle.std.specs.Prelude.{◌≡◌, ◌≤◌, ◌<◌, ℕ, ℤ, List, ◌∷◌, ◌++◌, length, slice_get, Option, Some, None, Contains}
 use Rattle.std.specs.Option.{option_map}
 use Rattle.kom_base.specs.declared.numbers.Dir.{Dir}
 use Rattle.kom_base.specs.declared.numbers.Side.{Side}
@@ -13,7 +13,6 @@ use Rattle.kom_lang.specs.declared.body.Effect.TheVariants as effect
 use Rattle.kom_record.specs.declared.item.Back.{Back}
 use Rattle.kom_record.specs.declared.item.Control.TheVariants.{Dump, Dumped}
 use Rattle.kom_record.specs.declared.item.Item.TheVariants.{Control, Arrival}
-use Rattle.kom_record.specs.declared.entry.Outcome.{Outcome}
 use Rattle.kom_record.specs.declared.entry.Outcome.TheVariants as outcome
 use Rattle.kom_record.specs.declared.entry.Entry.{Entry}
 use Rattle.kom_record.specs.declared.entry.Entry.TheVariants.{Took, Did}

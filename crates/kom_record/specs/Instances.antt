@@ -1,13 +1,13 @@
 -- The instances of components, the occupants of slots, and who is alive. Each is asked for after a
 -- list of acts, the latest first.
-use Rattle.std.specs.Prelude.{ℕ, zero, suc, ◌+◌, Bool, true, false, not, ◌&&◌, ◌==◌, nat_lt, if◌then◌else◌, List, [], ◌∷◌, ◌++◌, length, slice_get, Option, Some, None}
+use Rattle.std.specs.Prelude.{ℕ, zero, suc, ◌+◌, Bool, false, not, ◌&&◌, ◌==◌, nat_lt, if◌then◌else◌, List, [], ◌∷◌, ◌++◌, length, slice_get, Option, Some, None}
 use Rattle.std.specs.List.{list_any, enumerate_from}
 use Rattle.std.specs.Option.{option_map_or}
 use Rattle.kom_base.specs.Lists.{either, first}
 use Rattle.kom_lang.specs.Declarations.{Declarations, kind_of}
 use Rattle.kom_lang.specs.declared.kind.SlotDecl.{SlotDecl}
 use Rattle.kom_lang.specs.declared.body.Birth.{Birth}
-use Rattle.kom_lang.specs.declared.body.Birth.TheVariants.{Args, State}
+use Rattle.kom_lang.specs.declared.body.Birth.TheVariants.{Args}
 use Rattle.kom_lang.specs.declared.body.Effect.{Effect}
 use Rattle.kom_lang.specs.declared.body.Effect.TheVariants as effect
 use Rattle.kom_record.specs.Entries.{Act}

@@ -1,5 +1,5 @@
 -- Which records are legal: each entry is allowed after those before it.
-use Rattle.std.specs.Prelude.{◌≡◌, ℕ, Bool, true, false, not, ◌==◌, IsTrue, List, [], ◌∷◌, Option, Some, None}
+use Rattle.std.specs.Prelude.{◌≡◌, ℕ, Bool, true, false, not, ◌==◌, IsTrue, List, [], ◌∷◌, Option, Some}
 use Rattle.std.specs.List.{list_any, find}
 use Rattle.kom_lang.specs.Declarations.{Declarations}
 use Rattle.kom_lang.specs.declared.body.Body.{Body}

@@ -1,9 +1,11 @@
+pub mod Answers
 pub mod Bodies
 pub mod Channels
 pub mod Controls
 pub mod Entries
 pub mod Handed
 pub mod Instances
+pub mod Kept
 pub mod Legal
 pub mod Model
 pub mod Offers
@@ -13,4 +15,5 @@ pub mod Reaction
 pub mod Ready
 pub mod Simulated
 pub mod Time
+pub mod Trace
 pub mod Views

@@ -1,7 +1,7 @@
 -- What entries offer: which events, where, and where an answer goes.
 use Rattle.std.specs.Prelude.{ℕ, zero, suc, Bool, true, false, if◌then◌else◌, List, [], ◌∷◌, ◌++◌, map, slice_get, Option, Some, None}
 use Rattle.std.specs.List.{filter_map}
-use Rattle.std.specs.Option.{option_and_then, option_map, option_map_or}
+use Rattle.std.specs.Option.{option_and_then, option_map_or}
 use Rattle.kom_base.specs.declared.numbers.Side.TheVariants.{Outside}
 use Rattle.kom_base.specs.declared.numbers.Half.{Half}
 use Rattle.kom_base.specs.declared.numbers.EntryNo.{EntryNo}
@@ -13,10 +13,9 @@ use Rattle.kom_record.specs.declared.item.Back.{Back}
 use Rattle.kom_record.specs.declared.item.Back.TheVariants.{Plain, To, Home}
 use Rattle.kom_record.specs.declared.item.Item.{Item}
 use Rattle.kom_record.specs.declared.item.Item.TheVariants.{Control, Arrival}
-use Rattle.kom_record.specs.declared.entry.Outcome.{Outcome}
 use Rattle.kom_record.specs.declared.entry.Outcome.TheVariants as outcome
 use Rattle.kom_record.specs.declared.entry.Entry.{Entry}
-use Rattle.kom_record.specs.declared.entry.Entry.TheVariants.{Took, Did, Moved}
+use Rattle.kom_record.specs.declared.entry.Entry.TheVariants.{Did, Moved}
 use Rattle.kom_record.specs.Entries.{History, item_at, entry_at, before}
 
 -- where an event is offered: at a half, or, where the environment releases it, at its channel
@@ -81,6 +80,24 @@ offer_of c took item e = None
 abbrev pub offers_for : History → ℕ → ℕ → List Effect → Option Item → List Offer
 offers_for P c took effects None = []
 offers_for P c took effects (Some item) = relayed P c item ++ filter_map (offer_of c took item) effects
+
+-- ---- the offers of effects, by parts
+
+-- the effect offers an event: a trigger does, and an answer where the item is an arrival
+abbrev pub offers_event : Bool → Effect → Bool
+offers_event to_arrival (effect.Trigger port event) = true
+offers_event to_arrival (effect.Answer event) = to_arrival
+offers_event to_arrival e = false
+
+abbrev pub event_of : Effect → Option Event
+event_of (effect.Trigger port event) = Some event
+event_of (effect.Answer event) = Some event
+event_of e = None
+
+abbrev pub back_by : ℕ → Effect → Option Back
+back_by took (effect.Trigger port event) = Some Plain
+back_by took (effect.Answer event) = Some (To took)
+back_by took e = None
 
 -- The offers of an entry, in order of place, P the record before it. A Did first passes an arrived
 -- event on, and then offers its triggers and answers; a Void and a fault offer nothing. A Moved

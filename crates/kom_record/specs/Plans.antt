@@ -1,7 +1,6 @@
 -- When a plan fits a system, and when a job is well formed.
-use Rattle.std.specs.Prelude.{◌≡◌, ◌≤◌, ◌<◌, ℕ, Bool, true, false, ◌&&◌, ◌==◌, nat_lt, not, if◌then◌else◌, IsTrue, List, length, map, slice_get, Option, Some, None}
+use Rattle.std.specs.Prelude.{◌≡◌, ◌≤◌, ◌<◌, ℕ, Bool, true, false, ◌&&◌, ◌==◌, nat_lt, nat_le, not, if◌then◌else◌, IsTrue, List, [], ◌∷◌, length, map, slice_get, Some, None}
 use Rattle.std.specs.List.{list_any, list_all}
-use Rattle.std.specs.List.Sorted.{IsNonDecreasing}
 use Rattle.std.specs.Option.{option_map_or, option_and_then}
 use Rattle.kom_base.specs.declared.numbers.Dir.{Dir}
 use Rattle.kom_base.specs.declared.numbers.Dir.TheVariants.{Plus, Minus}
@@ -15,11 +14,10 @@ use Rattle.kom_lang.specs.declared.stmt.On.{On}
 use Rattle.kom_lang.specs.declared.stmt.On.TheVariants as on
 use Rattle.kom_lang.specs.declared.body.Body.{Body}
 use Rattle.kom_lang.specs.declared.body.Wire.{Wire}
-use Rattle.kom_record.specs.declared.item.Control.TheVariants.{Init, Start, Stop, Fault, Dump, Dumped}
+use Rattle.kom_record.specs.declared.item.Control.TheVariants.{Init}
 use Rattle.kom_record.specs.declared.item.Item.{Item}
 use Rattle.kom_record.specs.declared.item.Item.TheVariants.{Control, Arrival}
 use Rattle.kom_record.specs.declared.plan.Plan.{Plan}
-use Rattle.kom_record.specs.declared.plan.Raise.{Raise}
 
 -- ---- plans
 
@@ -37,6 +35,12 @@ comes_in_at S q event =
     option_map_or (λ p. passes S.events S.ports p.port (inward p) event.kind) (slice_get (kind_of S S.root.kind).ports q) false
     && is_of_its_type S event
 
+-- no number is greater than the next
+abbrev pub does_not_fall : List ℕ → Bool
+does_not_fall [] = true
+does_not_fall (t ∷ []) = true
+does_not_fall (t ∷ u ∷ ts) = nat_le t u && does_not_fall (u ∷ ts)
+
 -- The plan fits the system: its numbers are within their limits, and its raises stand in order of
 -- time and come in at ports of the root. (The root's ports and the environment channels have the
 -- same numbers.)
@@ -48,7 +52,7 @@ pub record PlanFits (S : Declarations) (Z : Plan) : Type 0 where
   pub pair : Z.lo ≤ Z.hi
   pub greatest : Z.hi ≤ 1_000_000_000
   pub raises : length Z.raises ≤ 2_000_000_000
-  pub in_order : IsNonDecreasing (map (λ r. r.time) Z.raises)
+  pub in_order : IsTrue (does_not_fall (map (λ r. r.time) Z.raises))
   pub times : IsTrue (list_all (λ r. nat_lt r.time 4_611_686_018_427_387_905) Z.raises)
   pub come_in : IsTrue (list_all (λ r. comes_in_at S r.chan r.event) Z.raises)
 
@@ -78,7 +82,7 @@ item_fits S kind (Arrival x d n port side event back) = nat_lt port (length (kin
 -- A job is well formed: all numbers in its body and its item are in range. The body has as many
 -- variables, slots and channels as its type declares, is subscribed to handlers of its type other
 -- than init, and its channels are plugged at ports that are there.
-pub record IsWellFormed (S : Declarations) (b : Body) (item : Item) : Type 0 where
+pub record IsWellFormedJob (S : Declarations) (b : Body) (item : Item) : Type 0 where
   pub kind : b.kind < length S.kinds
   pub vars : length b.vars ≡ length (kind_of S b.kind).vars
   pub slots : length b.slots ≡ length (kind_of S b.kind).slots

@@ -1,5 +1,5 @@
 -- What enters a channel, what is received from it, and what waits in it.
-use Rattle.std.specs.Prelude.{ℕ, Bool, true, false, not, ◌&&◌, ◌||◌, ◌==◌, if◌then◌else◌, List, [], ◌∷◌, ◌++◌, length, filter, Option, Some, None}
+use Rattle.std.specs.Prelude.{ℕ, Bool, true, false, not, ◌&&◌, ◌||◌, ◌==◌, if◌then◌else◌, List, [], ◌∷◌, ◌++◌, length, filter, Some, None}
 use Rattle.std.specs.List.{list_any, filter_map, enumerate_from}
 use Rattle.std.specs.Option.{option_map_or}
 use Rattle.kom_base.specs.declared.numbers.Dir.{Dir}
@@ -14,7 +14,7 @@ use Rattle.kom_record.specs.declared.item.Back.TheVariants.{Plain, To, Home}
 use Rattle.kom_record.specs.declared.item.Item.{Item}
 use Rattle.kom_record.specs.declared.item.Item.TheVariants.{Control, Arrival}
 use Rattle.kom_record.specs.declared.entry.Entry.{Entry}
-use Rattle.kom_record.specs.declared.entry.Entry.TheVariants.{Took, Did, Moved}
+use Rattle.kom_record.specs.declared.entry.Entry.TheVariants.{Took, Moved}
 use Rattle.kom_record.specs.Entries.{History, acts, item_at}
 use Rattle.kom_record.specs.Channels.{channels, source, is_living, selector, comes_in, goes_out}
 use Rattle.kom_record.specs.Offers.{Origin, AtHalf, FromOutside, Offer, offers}

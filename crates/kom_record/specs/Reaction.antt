@@ -1,5 +1,5 @@
 -- The reaction of a body to an item: which handlers run, on what, and what comes of it.
-use Rattle.std.specs.Prelude.{ℕ, ℤ, pos, Bool, true, false, ◌&&◌, ◌==◌, List, [], ◌∷◌, filter, Option, Some, None}
+use Rattle.std.specs.Prelude.{ℕ, ℤ, pos, Bool, true, false, ◌&&◌, ◌==◌, List, [], ◌∷◌, filter}
 use Rattle.std.specs.List.{filter_map}
 use Rattle.std.specs.Option.{option_map, option_map_or}
 use Rattle.kom_base.specs.declared.numbers.Side.TheVariants.{Outside}
@@ -10,7 +10,7 @@ use Rattle.kom_lang.specs.declared.stmt.On.TheVariants as on
 use Rattle.kom_lang.specs.declared.stmt.Stmt.{Stmt}
 use Rattle.kom_lang.specs.declared.body.Body.{Body}
 use Rattle.kom_lang.specs.Steps.{Context, Ended, Faulted, Config, start_config, Runs}
-use Rattle.kom_record.specs.declared.item.Control.TheVariants.{Init, Start, Stop, Fault, Dump, Dumped}
+use Rattle.kom_record.specs.declared.item.Control.TheVariants.{Init, Start, Stop, Fault, Dumped}
 use Rattle.kom_record.specs.declared.item.Item.{Item}
 use Rattle.kom_record.specs.declared.item.Item.TheVariants.{Control, Arrival}
 use Rattle.kom_record.specs.declared.entry.Outcome.{Outcome}

@@ -1,5 +1,5 @@
 -- Who is runnable and what a component takes next; when a record is closed and finished.
-use Rattle.std.specs.Prelude.{ℕ, Bool, true, false, not, ◌&&◌, ◌||◌, ◌==◌, nat_le, if◌then◌else◌, List, [], ◌∷◌, length, map, filter, Option, Some, None, is_some, is_none}
+use Rattle.std.specs.Prelude.{ℕ, Bool, true, false, not, ◌&&◌, ◌||◌, ◌==◌, nat_le, if◌then◌else◌, List, [], ◌∷◌, length, map, filter, Option, None, is_some, is_none}
 use Rattle.std.specs.List.{list_any, filter_map, flat_map, enumerate_from, count_by, sum_by}
 use Rattle.std.specs.Option.{option_and_then, option_map, option_map_or}
 use Rattle.kom_base.specs.declared.numbers.Dir.{Dir}
@@ -97,16 +97,16 @@ module _ (S : Declarations) where
   ready Z P c = runnable P c && not (is_closed Z P)
 
   -- the numbers of all instances that were created
-  unfoldable pub numbers : History → List ℕ
-  numbers P = map (λ i. i.0) (enumerate_from 0 (born S (acts P)))
+  unfoldable pub instance_numbers : History → List ℕ
+  instance_numbers P = map (λ i. i.0) (enumerate_from 0 (born S (acts P)))
 
   -- those that are ready, in order of number
   unfoldable pub ready_list : Plan → History → List ℕ
-  ready_list Z P = filter (ready Z P) (numbers P)
+  ready_list Z P = filter (ready Z P) (instance_numbers P)
 
   -- no component is runnable and nothing is pending
   unfoldable pub is_idle : Plan → History → Bool
-  is_idle Z P = is_none (first (filter (runnable P) (numbers P))) && is_none (first (pending S Z P))
+  is_idle Z P = is_none (first (filter (runnable P) (instance_numbers P))) && is_none (first (pending S Z P))
 
   -- no job is in hand, and the record is closed or there is nothing to do
   unfoldable pub is_finished : Plan → History → Bool

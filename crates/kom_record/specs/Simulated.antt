@@ -1,6 +1,6 @@
 -- The record of a simulation: one worker, who takes the components in the order in which they
 -- became ready.
-use Rattle.std.specs.Prelude.{◌≡◌, ℕ, suc, Bool, true, false, ◌&&◌, ◌||◌, ◌==◌, nat_lt, if◌then◌else◌, List, [], ◌∷◌, length, map, Option, Some, None}
+use Rattle.std.specs.Prelude.{◌≡◌, ℕ, suc, Bool, true, ◌&&◌, ◌||◌, ◌==◌, nat_lt, if◌then◌else◌, [], ◌∷◌, length, map, Option, Some}
 use Rattle.std.specs.Option.{option_map}
 use Rattle.kom_base.specs.Lists.{least}
 use Rattle.kom_lang.specs.Declarations.{Declarations}

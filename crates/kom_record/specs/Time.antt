@@ -1,5 +1,5 @@
 -- The clock, what went out to the environment, and what the environment still has to release.
-use Rattle.std.specs.Prelude.{ℕ, zero, suc, ◌+◌, ◌-◌, ◌%◌, ℤ, pos, negsuc, min, Bool, true, false, not, ◌&&◌, ◌==◌, nat_lt, if◌then◌else◌, List, [], ◌∷◌, ◌++◌, length, map, filter, slice_get, slice_index_or, Option, Some, None, unwrap_or}
+use Rattle.std.specs.Prelude.{ℕ, zero, suc, ◌+◌, ◌-◌, ◌%◌, ℤ, pos, negsuc, min, Bool, false, not, ◌&&◌, ◌==◌, nat_lt, if◌then◌else◌, List, [], ◌∷◌, ◌++◌, length, map, filter, slice_get, slice_index_or, Option, Some, None, unwrap_or}
 use Rattle.std.specs.List.{list_any, list_all, filter_map, flat_map, enumerate_from}
 use Rattle.std.specs.Option.{option_map_or}
 use Rattle.rand_pcg.specs.Lcg.{Lcg, started, increment_of}
@@ -16,8 +16,8 @@ use Rattle.kom_record.specs.declared.plan.Plan.{Plan}
 use Rattle.kom_record.specs.declared.plan.Raise.{Raise}
 use Rattle.kom_record.specs.declared.entry.Release.{Release}
 use Rattle.kom_record.specs.declared.entry.Entry.{Entry}
-use Rattle.kom_record.specs.declared.entry.Entry.TheVariants.{Took, Did, Moved}
-use Rattle.kom_record.specs.Entries.{History, acts}
+use Rattle.kom_record.specs.declared.entry.Entry.TheVariants.{Took, Moved}
+use Rattle.kom_record.specs.Entries.{History}
 use Rattle.kom_record.specs.Offers.{Offer, offers}
 use Rattle.kom_record.specs.Queues.{enters}
 

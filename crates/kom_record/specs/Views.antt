@@ -1,5 +1,5 @@
 -- What one worker knows of a record that several workers add to.
-use Rattle.std.specs.Prelude.{◌≡◌, ℕ, Bool, true, false, ◌&&◌, ◌==◌, nat_le, List, [], ◌∷◌, ◌++◌, length, Option, Some, None}
+use Rattle.std.specs.Prelude.{◌≡◌, ℕ, ◌&&◌, ◌==◌, nat_le, List, [], ◌∷◌, ◌++◌, length, Option}
 use Rattle.std.specs.List.{find}
 use Rattle.kom_base.specs.Lists.{if_so}
 use Rattle.kom_record.specs.declared.entry.Entry.{Entry}

@@ -1,0 +1,185 @@
+-- Channels let pass what their selectors say.
+use Rattle.std.specs.Prelude.{pos, true, false, List, [], ◌∷◌, Some, None, codes}
+use Rattle.kom_base.specs.declared.numbers.Dir.TheVariants.{Plus}
+use Rattle.kom_base.specs.declared.numbers.Side.TheVariants.{Outside}
+use Rattle.kom_events.specs.declared.selector.Op.TheVariants as op
+use Rattle.kom_lang.specs.Declarations.{Declarations}
+use Rattle.kom_lang.specs.declared.kind.Kind.{Kind}
+use Rattle.kom_lang.specs.declared.stmt.On.TheVariants as on
+use Rattle.kom_lang.specs.declared.stmt.Stmt.TheVariants as stmt
+use Rattle.kom_lang.specs.declared.expr.Expr.TheVariants as expr
+use Rattle.kom_lang.specs.declared.expr.Binary.TheVariants as binary
+use Rattle.kom_record.specs.declared.plan.Plan.{Plan}
+use Rattle.kom_record.specs.declared.item.Control.TheVariants.{Start}
+use Rattle.kom_record.specs.declared.item.Item.TheVariants.{Control, Arrival}
+use Rattle.kom_record.specs.declared.item.Back.TheVariants.{Plain}
+use Rattle.kom_record.specs.declared.entry.Outcome.TheVariants as outcome
+use Rattle.kom_record.specs.declared.entry.Entry.{Entry}
+use Rattle.kom_record.specs.declared.entry.Entry.TheVariants.{Took, Did, Moved}
+use Rattle.kom_record.specs.Entries.{History}
+use Rattle.kom_record.specs.Trace.{Text}
+use Rattle.kom_rows.specs.Worked.{IsSimulation}
+
+abbrev pub kind0 : Kind
+kind0 = record { name = (76 ∷ 101 ∷ 97 ∷ 102 ∷ []); ports = (record { name = (112 ∷ []); port = 2; provided = false } ∷ []); vars = (record { name = (103 ∷ 111 ∷ 116 ∷ []); first = pos 0 } ∷ []); slots = ([]); channels = ([]); handlers = (record { name = (104 ∷ []); on = on.Event 4 0; off = false; block = (stmt.SetVar 0 (expr.Pair binary.Add (expr.Var 0) (expr.It 0)) ∷ []) } ∷ []) }
+
+abbrev pub kind1 : Kind
+kind1 = record { name = (77 ∷ 97 ∷ 105 ∷ 110 ∷ []); ports = (record { name = (112 ∷ []); port = 2; provided = false } ∷ []); vars = ([]); slots = (record { name = (97 ∷ []); child = Some (record { kind = 0; args = ([]) }) } ∷ record { name = (98 ∷ []); child = Some (record { kind = 0; args = ([]) }) } ∷ []); channels = (record { name = (107 ∷ []); port = 2; plus = (Some (record { slot = None; port = 0 })); minus = (Some (record { slot = (Some 0); port = 0 })); plus_when = (record { kind = 4; attr = 0; op = op.Eq; number = pos 1 } ∷ []); minus_when = [] } ∷ record { name = (108 ∷ []); port = 2; plus = (Some (record { slot = None; port = 0 })); minus = (Some (record { slot = (Some 1); port = 0 })); plus_when = (record { kind = 4; attr = 0; op = op.Ge; number = pos 1 } ∷ []); minus_when = [] } ∷ []); handlers = ([]) }
+
+abbrev pub S : Declarations
+S = record { events = (record { parent = None; own = 2 } ∷ record { parent = None; own = 1 } ∷ record { parent = None; own = 1 } ∷ record { parent = None; own = 2 } ∷ record { parent = None; own = 1 } ∷ []); ports = (record { plus = (2 ∷ []); minus = (0 ∷ 1 ∷ []) } ∷ record { plus = (3 ∷ []); minus = (3 ∷ []) } ∷ record { plus = (4 ∷ []); minus = ([]) } ∷ []); kinds = (kind0 ∷ kind1 ∷ []); root = record { kind = 1; args = ([]) } }
+
+abbrev pub names : List Text
+names = ((83 ∷ 101 ∷ 116 ∷ 84 ∷ 105 ∷ 109 ∷ 101 ∷ 114 ∷ []) ∷ (67 ∷ 97 ∷ 110 ∷ 99 ∷ 101 ∷ 108 ∷ 84 ∷ 105 ∷ 109 ∷ 101 ∷ 114 ∷ []) ∷ (84 ∷ 105 ∷ 109 ∷ 101 ∷ 111 ∷ 117 ∷ 116 ∷ []) ∷ (77 ∷ 101 ∷ 115 ∷ 115 ∷ 97 ∷ 103 ∷ 101 ∷ []) ∷ (78 ∷ []) ∷ [])
+
+abbrev pub Z : Plan
+Z = record { seed = 0; steps = 100000; instants = 100000; lo = 1; hi = 1; raises = (record { time = 0; chan = 0; event = (record { kind = 4; values = ((pos 1) ∷ []) }) } ∷ record { time = 0; chan = 0; event = (record { kind = 4; values = ((pos 2) ∷ []) }) } ∷ record { time = 0; chan = 0; event = (record { kind = 4; values = ((pos 0) ∷ []) }) } ∷ []) }
+
+abbrev pub e0 : Entry
+e0 = Took 0 0 (Control Start)
+
+abbrev pub e1 : Entry
+e1 = Did 0 0 0 (outcome.Done (record { kind = 1; vars = ([]); subs = ([]); slots = ((Some 0) ∷ (Some 0) ∷ []); wires = (record { held = false; plus = (Some (record { slot = None; port = 0 })); minus = (Some (record { slot = (Some 0); port = 0 })) } ∷ record { held = false; plus = (Some (record { slot = None; port = 0 })); minus = (Some (record { slot = (Some 1); port = 0 })) } ∷ []); depth = 1; active = true; initialised = true }) ([])) None ([])
+
+abbrev pub e2 : Entry
+e2 = Took 0 1 (Control Start)
+
+abbrev pub e3 : Entry
+e3 = Did 0 1 2 (outcome.Done (record { kind = 0; vars = ((pos 0) ∷ []); subs = (0 ∷ []); slots = ([]); wires = ([]); depth = 2; active = true; initialised = true }) ([])) None ([])
+
+abbrev pub e4 : Entry
+e4 = Took 0 2 (Control Start)
+
+abbrev pub e5 : Entry
+e5 = Did 0 2 4 (outcome.Done (record { kind = 0; vars = ((pos 0) ∷ []); subs = (0 ∷ []); slots = ([]); wires = ([]); depth = 2; active = true; initialised = true }) ([])) None ([])
+
+abbrev pub e6 : Entry
+e6 = Moved 0 0 (record { chan = 0; event = (record { kind = 4; values = ((pos 1) ∷ []) }) } ∷ record { chan = 0; event = (record { kind = 4; values = ((pos 2) ∷ []) }) } ∷ record { chan = 0; event = (record { kind = 4; values = ((pos 0) ∷ []) }) } ∷ [])
+
+abbrev pub e7 : Entry
+e7 = Took 0 0 (Arrival 0 Plus (record { position = 6; place = 0 }) 0 Outside (record { kind = 4; values = ((pos 1) ∷ []) }) Plain)
+
+abbrev pub e8 : Entry
+e8 = Did 0 0 7 (outcome.Done (record { kind = 1; vars = ([]); subs = ([]); slots = ((Some 0) ∷ (Some 0) ∷ []); wires = (record { held = false; plus = (Some (record { slot = None; port = 0 })); minus = (Some (record { slot = (Some 0); port = 0 })) } ∷ record { held = false; plus = (Some (record { slot = None; port = 0 })); minus = (Some (record { slot = (Some 1); port = 0 })) } ∷ []); depth = 1; active = true; initialised = true }) ([])) None ([])
+
+abbrev pub e9 : Entry
+e9 = Took 0 0 (Arrival 0 Plus (record { position = 6; place = 1 }) 0 Outside (record { kind = 4; values = ((pos 2) ∷ []) }) Plain)
+
+abbrev pub e10 : Entry
+e10 = Did 0 0 9 (outcome.Done (record { kind = 1; vars = ([]); subs = ([]); slots = ((Some 0) ∷ (Some 0) ∷ []); wires = (record { held = false; plus = (Some (record { slot = None; port = 0 })); minus = (Some (record { slot = (Some 0); port = 0 })) } ∷ record { held = false; plus = (Some (record { slot = None; port = 0 })); minus = (Some (record { slot = (Some 1); port = 0 })) } ∷ []); depth = 1; active = true; initialised = true }) ([])) None ([])
+
+abbrev pub e11 : Entry
+e11 = Took 0 1 (Arrival 1 Plus (record { position = 8; place = 0 }) 0 Outside (record { kind = 4; values = ((pos 1) ∷ []) }) Plain)
+
+abbrev pub e12 : Entry
+e12 = Did 0 1 11 (outcome.Done (record { kind = 0; vars = ((pos 1) ∷ []); subs = (0 ∷ []); slots = ([]); wires = ([]); depth = 2; active = true; initialised = true }) ([])) None ([])
+
+abbrev pub e13 : Entry
+e13 = Took 0 2 (Arrival 2 Plus (record { position = 8; place = 0 }) 0 Outside (record { kind = 4; values = ((pos 1) ∷ []) }) Plain)
+
+abbrev pub e14 : Entry
+e14 = Did 0 2 13 (outcome.Done (record { kind = 0; vars = ((pos 1) ∷ []); subs = (0 ∷ []); slots = ([]); wires = ([]); depth = 2; active = true; initialised = true }) ([])) None ([])
+
+abbrev pub e15 : Entry
+e15 = Took 0 0 (Arrival 0 Plus (record { position = 6; place = 2 }) 0 Outside (record { kind = 4; values = ((pos 0) ∷ []) }) Plain)
+
+abbrev pub e16 : Entry
+e16 = Did 0 0 15 (outcome.Done (record { kind = 1; vars = ([]); subs = ([]); slots = ((Some 0) ∷ (Some 0) ∷ []); wires = (record { held = false; plus = (Some (record { slot = None; port = 0 })); minus = (Some (record { slot = (Some 0); port = 0 })) } ∷ record { held = false; plus = (Some (record { slot = None; port = 0 })); minus = (Some (record { slot = (Some 1); port = 0 })) } ∷ []); depth = 1; active = true; initialised = true }) ([])) None ([])
+
+abbrev pub e17 : Entry
+e17 = Took 0 2 (Arrival 2 Plus (record { position = 10; place = 0 }) 0 Outside (record { kind = 4; values = ((pos 2) ∷ []) }) Plain)
+
+abbrev pub e18 : Entry
+e18 = Did 0 2 17 (outcome.Done (record { kind = 0; vars = ((pos 3) ∷ []); subs = (0 ∷ []); slots = ([]); wires = ([]); depth = 2; active = true; initialised = true }) ([])) None ([])
+
+abbrev pub h0 : History
+h0 = []
+
+abbrev pub h1 : History
+h1 = e0 ∷ h0
+
+abbrev pub h2 : History
+h2 = e1 ∷ h1
+
+abbrev pub h3 : History
+h3 = e2 ∷ h2
+
+abbrev pub h4 : History
+h4 = e3 ∷ h3
+
+abbrev pub h5 : History
+h5 = e4 ∷ h4
+
+abbrev pub h6 : History
+h6 = e5 ∷ h5
+
+abbrev pub h7 : History
+h7 = e6 ∷ h6
+
+abbrev pub h8 : History
+h8 = e7 ∷ h7
+
+abbrev pub h9 : History
+h9 = e8 ∷ h8
+
+abbrev pub h10 : History
+h10 = e9 ∷ h9
+
+abbrev pub h11 : History
+h11 = e10 ∷ h10
+
+abbrev pub h12 : History
+h12 = e11 ∷ h11
+
+abbrev pub h13 : History
+h13 = e12 ∷ h12
+
+abbrev pub h14 : History
+h14 = e13 ∷ h13
+
+abbrev pub h15 : History
+h15 = e14 ∷ h14
+
+abbrev pub h16 : History
+h16 = e15 ∷ h15
+
+abbrev pub h17 : History
+h17 = e16 ∷ h16
+
+abbrev pub h18 : History
+h18 = e17 ∷ h17
+
+abbrev pub h19 : History
+h19 = e18 ∷ h18
+
+abbrev pub text : List Text
+text =
+    codes "trace 1"
+    ∷ codes "0 0 took 0 start"
+    ∷ codes "1 0 did 0 done active"
+    ∷ codes "2 0 took 1 start"
+    ∷ codes "3 0 did 1 done active 0"
+    ∷ codes "4 0 took 2 start"
+    ∷ codes "5 0 did 2 done active 0"
+    ∷ codes "6 0 moved 0"
+    ∷ codes "  release 0 0 N 1"
+    ∷ codes "  release 0 1 N 2"
+    ∷ codes "  release 0 2 N 0"
+    ∷ codes "7 0 took 0 event 0 plus 6.0 p outside N 1"
+    ∷ codes "8 0 did 0 done active"
+    ∷ codes "9 0 took 0 event 0 plus 6.1 p outside N 2"
+    ∷ codes "10 0 did 0 done active"
+    ∷ codes "11 0 took 1 event 1 plus 8.0 p outside N 1"
+    ∷ codes "12 0 did 1 done active 1"
+    ∷ codes "13 0 took 2 event 2 plus 8.0 p outside N 1"
+    ∷ codes "14 0 did 2 done active 1"
+    ∷ codes "15 0 took 0 event 0 plus 6.2 p outside N 0"
+    ∷ codes "16 0 did 0 done active"
+    ∷ codes "17 0 took 2 event 2 plus 10.0 p outside N 2"
+    ∷ codes "18 0 did 2 done active 3"
+    ∷ codes "end quiet"
+    ∷ codes "took 9 did 9 moved 1 queued 0 out 0"
+    ∷ []
+
+abbrev pub Selectors : Type 0
+Selectors = IsSimulation names S Z h19 text
