@@ -1,0 +1,66 @@
+-- What a system declares, by number, and what follows from a component type alone.
+use Rattle.std.specs.Prelude.{ℕ, zero, suc, ◌+◌, max, Bool, true, false, not, ◌&&◌, if◌then◌else◌, List, [], ◌∷◌, length, slice_get, slice_index_or, Option, Some, None}
+use Rattle.std.specs.List.{list_any, enumerate_from, filter_map}
+use Rattle.std.specs.Option.{option_map}
+use Rattle.kom_events.specs.declared.event_types.EventRow.{EventRow}
+use Rattle.kom_events.specs.declared.port_types.PortRow.{PortRow}
+use Rattle.kom_lang.specs.declared.kind.Kind.{Kind}
+use Rattle.kom_lang.specs.declared.kind.Child.{Child}
+use Rattle.kom_lang.specs.declared.stmt.Handler.{Handler}
+use Rattle.kom_lang.specs.declared.stmt.On.{On}
+use Rattle.kom_lang.specs.declared.stmt.On.TheVariants as on
+
+-- the event types, port types and component types of a system, each named by its place in the
+-- list, and its root
+pub record Declarations : Type 0 where
+  pub events : List EventRow
+  pub ports : List PortRow
+  pub kinds : List Kind
+  pub root : Child
+
+-- a type for a number that no component type has
+abbrev pub no_kind : Kind
+no_kind = record { name = []; ports = []; vars = []; slots = []; channels = []; handlers = [] }
+
+abbrev pub kind_of : Declarations → ℕ → Kind
+kind_of S k = slice_index_or S.kinds k no_kind
+
+-- ---- handlers
+
+abbrev pub is_init : On → Bool
+is_init (on.Init names) = true
+is_init o = false
+
+abbrev pub is_fault : On → Bool
+is_fault (on.Fault slot number) = true
+is_fault o = false
+
+abbrev pub handler_of : Kind → ℕ → Option Handler
+handler_of kind h = slice_get kind.handlers h
+
+abbrev pub has_init : Kind → Bool
+has_init kind = list_any (λ h. is_init h.on) kind.handlers
+
+-- the numbers of the handlers that pass a test, in order of declaration
+abbrev pub numbers_of : (Handler → Bool) → List Handler → List ℕ
+numbers_of test handlers = filter_map (λ p. if test p.1 then Some p.0 else None) (enumerate_from 0 handlers)
+
+-- the subscriptions of a component that becomes initialised
+abbrev pub first_subs : Kind → List ℕ
+first_subs kind = numbers_of (λ h. not h.off && not (is_init h.on)) kind.handlers
+
+-- ---- the tree of a component type
+
+abbrev pub greatest : List ℕ → ℕ
+greatest [] = 0
+greatest (n ∷ ns) = max n (greatest ns)
+
+-- how many levels the tree of a component type has: one more than the highest of its typed slots,
+-- where it has at most n levels
+abbrev pub height : ℕ → Declarations → ℕ → ℕ
+height zero S kind = 0
+height (suc n) S kind = 1 + greatest (filter_map (λ s. option_map (λ child. height n S child.kind) s.child) (kind_of S kind).slots)
+
+-- where no type contains itself there are at most as many levels as types
+abbrev pub height_of : Declarations → ℕ → ℕ
+height_of S kind = height (length S.kinds) S kind

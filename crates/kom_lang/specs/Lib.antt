@@ -1,0 +1,5 @@
+pub mod Declarations
+pub mod Values
+pub mod Steps
+pub mod Bodies
+pub mod Compute
