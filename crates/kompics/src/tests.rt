@@ -27,9 +27,9 @@ struct Outside {
 
 const PLAIN: Outside = Outside {
     read: 4096,
-    read_fails: 99,
+    read_fails: 1000000,
     write: 4096,
-    write_fails: 99,
+    write_fails: 1000000,
 };
 
 /// The status and the output of `sim` with these two files, named `s` and `z`.
