@@ -1,0 +1,4 @@
+mod Lexing
+mod Runs
+mod Texts
+mod Words
