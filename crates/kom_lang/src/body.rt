@@ -1,6 +1,7 @@
 use crate::kind::Place;
-use kom_base::{Dir, Event, Values};
+use kom_base::{Copied, Dir, Event, Values};
 use sqlite_items::Items;
+use std::alloc::{AllocError, Global};
 
 /// The subscribed handlers of a component, by number, in order of subscription.
 pub type Subs = Items<u8>;
@@ -62,4 +63,69 @@ pub enum Effect {
     Unplug { wire: u8, end: Dir },
     Plug { wire: u8, end: Dir, place: Place },
     Escalate,
+}
+
+impl Copied for Wire {
+    fn copy(&self, _alloc: Global) -> Result<Wire, AllocError> {
+        Ok(*self)
+    }
+}
+
+impl Copied for Body {
+    fn copy(&self, alloc: Global) -> Result<Body, AllocError> {
+        Ok(Body {
+            kind: self.kind,
+            vars: self.vars.copy(alloc)?,
+            subs: self.subs.copy(alloc)?,
+            slots: self.slots.copy(alloc)?,
+            wires: self.wires.copy(alloc)?,
+            depth: self.depth,
+            active: self.active,
+            initialised: self.initialised,
+        })
+    }
+}
+
+impl Copied for Birth {
+    fn copy(&self, alloc: Global) -> Result<Birth, AllocError> {
+        match self {
+            Birth::Args(values) => Ok(Birth::Args(values.copy(alloc)?)),
+            Birth::State(values) => Ok(Birth::State(values.copy(alloc)?)),
+        }
+    }
+}
+
+impl Copied for Effect {
+    fn copy(&self, alloc: Global) -> Result<Effect, AllocError> {
+        match self {
+            Effect::Trigger { port, event } => Ok(Effect::Trigger {
+                port: *port,
+                event: event.copy(alloc)?,
+            }),
+            Effect::Answer { event } => Ok(Effect::Answer {
+                event: event.copy(alloc)?,
+            }),
+            Effect::Create { slot, kind, birth } => Ok(Effect::Create {
+                slot: *slot,
+                kind: *kind,
+                birth: birth.copy(alloc)?,
+            }),
+            Effect::Start(slot) => Ok(Effect::Start(*slot)),
+            Effect::Stop(slot) => Ok(Effect::Stop(*slot)),
+            Effect::Destroy(slot) => Ok(Effect::Destroy(*slot)),
+            Effect::Dump(slot) => Ok(Effect::Dump(*slot)),
+            Effect::Hold(wire) => Ok(Effect::Hold(*wire)),
+            Effect::Resume(wire) => Ok(Effect::Resume(*wire)),
+            Effect::Unplug { wire, end } => Ok(Effect::Unplug {
+                wire: *wire,
+                end: *end,
+            }),
+            Effect::Plug { wire, end, place } => Ok(Effect::Plug {
+                wire: *wire,
+                end: *end,
+                place: *place,
+            }),
+            Effect::Escalate => Ok(Effect::Escalate),
+        }
+    }
 }

@@ -1,10 +1,6 @@
+use kom_base::Copied;
 use sqlite_items::{Boxed, Items};
-
-/// A declared name. Contracts see its bytes.
-pub type Name = Items<u8>;
-
-/// A list of names. Contracts see the list.
-pub type Names = Items<Name>;
+use std::alloc::{AllocError, Global};
 
 /// A binary operator.
 #[derive(Clone, Copy, Debug, PartialEq, Eq)]
@@ -46,3 +42,21 @@ pub enum Expr {
 
 /// A list of expressions. Contracts see the list.
 pub type Exprs = Items<Expr>;
+
+impl Copied for Expr {
+    fn copy(&self, alloc: Global) -> Result<Expr, AllocError> {
+        match self {
+            Expr::Number(n) => Ok(Expr::Number(*n)),
+            Expr::Var(i) => Ok(Expr::Var(*i)),
+            Expr::Local(i) => Ok(Expr::Local(*i)),
+            Expr::It(i) => Ok(Expr::It(*i)),
+            Expr::Neg(inner) => Ok(Expr::Neg(Boxed::new(alloc, inner.get().copy(alloc)?)?)),
+            Expr::Not(inner) => Ok(Expr::Not(Boxed::new(alloc, inner.get().copy(alloc)?)?)),
+            Expr::Pair { op, left, right } => Ok(Expr::Pair {
+                op: *op,
+                left: Boxed::new(alloc, left.get().copy(alloc)?)?,
+                right: Boxed::new(alloc, right.get().copy(alloc)?)?,
+            }),
+        }
+    }
+}

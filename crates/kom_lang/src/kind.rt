@@ -1,8 +1,9 @@
-use crate::expr::Name;
+use crate::name::Name;
 use crate::stmt::Handlers;
-use kom_base::Values;
+use kom_base::{Copied, Values};
 use kom_events::Selector;
 use sqlite_items::Items;
+use std::alloc::{AllocError, Global};
 
 /// A port of a component type: its name, its port type, and whether it is provided or required.
 #[derive(Debug, Drop)]
@@ -71,4 +72,73 @@ pub struct Kind {
     pub slots: SlotDecls,
     pub channels: ChannelDecls,
     pub handlers: Handlers,
+}
+
+impl Copied for PortDecl {
+    fn copy(&self, alloc: Global) -> Result<PortDecl, AllocError> {
+        Ok(PortDecl {
+            name: self.name.copy(alloc)?,
+            port: self.port,
+            provided: self.provided,
+        })
+    }
+}
+
+impl Copied for VarDecl {
+    fn copy(&self, alloc: Global) -> Result<VarDecl, AllocError> {
+        Ok(VarDecl {
+            name: self.name.copy(alloc)?,
+            first: self.first,
+        })
+    }
+}
+
+impl Copied for Child {
+    fn copy(&self, alloc: Global) -> Result<Child, AllocError> {
+        Ok(Child {
+            kind: self.kind,
+            args: self.args.copy(alloc)?,
+        })
+    }
+}
+
+impl Copied for SlotDecl {
+    fn copy(&self, alloc: Global) -> Result<SlotDecl, AllocError> {
+        Ok(SlotDecl {
+            name: self.name.copy(alloc)?,
+            child: self.child.copy(alloc)?,
+        })
+    }
+}
+
+impl Copied for Place {
+    fn copy(&self, _alloc: Global) -> Result<Place, AllocError> {
+        Ok(*self)
+    }
+}
+
+impl Copied for ChannelDecl {
+    fn copy(&self, alloc: Global) -> Result<ChannelDecl, AllocError> {
+        Ok(ChannelDecl {
+            name: self.name.copy(alloc)?,
+            port: self.port,
+            plus: self.plus,
+            minus: self.minus,
+            plus_when: self.plus_when.copy(alloc)?,
+            minus_when: self.minus_when.copy(alloc)?,
+        })
+    }
+}
+
+impl Copied for Kind {
+    fn copy(&self, alloc: Global) -> Result<Kind, AllocError> {
+        Ok(Kind {
+            name: self.name.copy(alloc)?,
+            ports: self.ports.copy(alloc)?,
+            vars: self.vars.copy(alloc)?,
+            slots: self.slots.copy(alloc)?,
+            channels: self.channels.copy(alloc)?,
+            handlers: self.handlers.copy(alloc)?,
+        })
+    }
 }

@@ -5,12 +5,17 @@
 mod body;
 mod expr;
 mod kind;
+mod name;
 mod stmt;
 
 pub use body::{Birth, Body, Effect, Effects, Slots, Subs, Wire, Wires};
-pub use expr::{Binary, Expr, Exprs, Name, Names};
+pub use expr::{Binary, Expr, Exprs};
 pub use kind::{
     ChannelDecl, ChannelDecls, Child, Kind, Place, PortDecl, PortDecls, SlotDecl, SlotDecls,
     VarDecl, VarDecls,
 };
+pub use name::{Name, Names};
 pub use stmt::{Block, Handler, Handlers, On, Stmt, Target};
+
+#[cfg(test)]
+mod tests;
