@@ -14,6 +14,7 @@ abbrev pub first_vars : Kind → Birth → List ℤ
 first_vars kind (Args vs) = map (λ v. v.first) kind.vars
 first_vars kind (State vs) = vs
 
+-- whether the component is created from the variables of another
 abbrev pub is_state : Birth → Bool
 is_state (Args vs) = false
 is_state (State vs) = true
@@ -26,6 +27,7 @@ is_initialised_at_birth kind birth = not (has_init kind) || is_state birth
 abbrev pub first_wire : ChannelDecl → Wire
 first_wire c = record { held = is_none c.plus || is_none c.minus; plus = c.plus; minus = c.minus }
 
+-- the body of a component of type k when it is created at that depth
 abbrev pub first_body : Declarations → ℕ → Birth → ℕ → Body
 first_body S k birth depth =
     let kind = kind_of S k in

@@ -23,22 +23,27 @@ pub record Declarations : Type 0 where
 abbrev pub no_kind : Kind
 no_kind = record { name = []; ports = []; vars = []; slots = []; channels = []; handlers = [] }
 
+-- the component type with that number
 abbrev pub kind_of : Declarations → ℕ → Kind
 kind_of S k = slice_index_or S.kinds k no_kind
 
 -- ---- handlers
 
+-- whether a handler handles Init
 abbrev pub is_init : On → Bool
 is_init (on.Init names) = true
 is_init o = false
 
+-- whether a handler handles faults
 abbrev pub is_fault : On → Bool
 is_fault (on.Fault slot number) = true
 is_fault o = false
 
+-- the handler with that number
 abbrev pub handler_of : Kind → ℕ → Option Handler
 handler_of kind h = slice_get kind.handlers h
 
+-- whether components of the type take an Init
 abbrev pub has_init : Kind → Bool
 has_init kind = list_any (λ h. is_init h.on) kind.handlers
 
@@ -56,6 +61,7 @@ first_subs kind = numbers_of is_on kind.handlers
 
 -- ---- the tree of a component type
 
+-- the greatest of some numbers, and 0 where there are none
 abbrev pub greatest : List ℕ → ℕ
 greatest [] = 0
 greatest (n ∷ ns) = max n (greatest ns)

@@ -51,6 +51,7 @@ pub data Progress : Type 0 where
   Ended : (body : Body) (effects : List Effect) → Progress
   Faulted : (n : ℕ) → Progress
 
+-- what the expressions of a handling may read at this moment
 abbrev pub valuation : Context → Config → Valuation
 valuation g c = record { vars = c.body.vars; scope = c.scope; it = g.it }
 
@@ -61,8 +62,11 @@ with_value (Err n) go = Faulted n
 
 -- ---- changes of a body and of a configuration
 
+-- into a block, whose names leave the scope at its end
 abbrev pub enter_block : Config → List Stmt → Config
 enter_block c block = record { todo = map Do block ++ EndBlock (length c.scope) ∷ c.todo; scope = c.scope; body = c.body; effects = c.effects; turns = c.turns }
+
+-- a configuration or a body with one field changed
 
 abbrev pub with_todo : Config → List Task → Config
 with_todo c todo = record { todo = todo; scope = c.scope; body = c.body; effects = c.effects; turns = c.turns }
@@ -89,17 +93,21 @@ with_wire b k wire = record { kind = b.kind; vars = b.vars; subs = b.subs; slots
 abbrev pub no_wire : Wire
 no_wire = record { held = true; plus = None; minus = None }
 
+-- the channel with that number, as the component knows it
 abbrev pub wire_of : Body → ℕ → Wire
 wire_of b k = slice_index_or b.wires k no_wire
 
+-- where that end is plugged; none where it is free
 abbrev pub end_of : Wire → Dir → Option Place
 end_of w Plus = w.plus
 end_of w Minus = w.minus
 
+-- that end plugged elsewhere, or free
 abbrev pub with_end : Wire → Dir → Option Place → Wire
 with_end w Plus p = record { held = w.held; plus = p; minus = w.minus }
 with_end w Minus p = record { held = w.held; plus = w.plus; minus = p }
 
+-- held, or no longer so
 abbrev pub with_held : Wire → Bool → Wire
 with_held w held = record { held = held; plus = w.plus; minus = w.minus }
 
@@ -113,6 +121,7 @@ child_in b slot = option_and_then (λ o. o) (slice_get b.slots slot)
 abbrev pub first_fault : List (Bool × ℕ) → Option ℕ
 first_fault checks = find_map (λ t. if t.0 then Some t.1 else None) checks
 
+-- the fault, if there is one
 abbrev pub unless_faulty : Option ℕ → Progress → Progress
 unless_faulty None next = next
 unless_faulty (Some n) next = Faulted n
@@ -124,6 +133,7 @@ takes_effect c checks e body =
     unless_faulty (first_fault ((nat_le 32 (length c.effects), 4) ∷ checks))
     (Running (record { todo = c.todo; scope = c.scope; body = body; effects = c.effects ++ e ∷ []; turns = c.turns }))
 
+-- the end is plugged at the child in that slot
 abbrev pub is_at_slot : ℕ → Option Place → Bool
 is_at_slot s place = option_map_or (λ p. option_map_or (λ t. t == s) p.slot false) place false
 
@@ -131,9 +141,11 @@ is_at_slot s place = option_map_or (λ p. option_map_or (λ t. t == s) p.slot fa
 abbrev pub is_plugged_at : Body → ℕ → Bool
 is_plugged_at b s = list_any (λ w. is_at_slot s w.plus || is_at_slot s w.minus) b.wires
 
+-- how many variables components of the type have
 abbrev pub count_of_vars : Declarations → ℕ → ℕ
 count_of_vars S kind = length (kind_of S kind).vars
 
+-- whether an effect passes the fault on
 abbrev pub is_escalate : Effect → Bool
 is_escalate effect.Escalate = true
 is_escalate e = false
@@ -147,6 +159,7 @@ port_named kind name = position_from (λ p. bytes_eq p.name name) 0 kind.ports
 abbrev pub takes_end : ℕ → Dir → PortDecl → Bool
 takes_end type end p = p.port == type && agree p.provided (is_plus end)
 
+-- the port type of a channel of the component
 abbrev pub port_of_channel : Declarations → Body → ℕ → ℕ
 port_of_channel S b k = option_map_or (λ c. c.port) (slice_get (kind_of S b.kind).channels k) 0
 
@@ -158,23 +171,30 @@ port_for S b k end s name =
     (port_named (kind_of S child) name))
     (child_in b s)
 
+-- an end is plugged at a place: fault 8 where the channel is not held, fault 9 where the end is
+-- not free, then the checks of the place
 abbrev pub plugs : Config → ℕ → Dir → List (Bool × ℕ) → Place → Progress
 plugs c k end more place =
     takes_effect c ((not (wire_of c.body k).held, 8) ∷ (is_some (end_of (wire_of c.body k) end), 9) ∷ more)
     (effect.Plug k end place) (with_wire c.body k (with_end (wire_of c.body k) end (Some place)))
 
+-- at a port of the component itself without more checks; at a child's port with fault 6 where the
+-- slot is empty and fault 11 where there is no such port
 abbrev pub plugs_at : Declarations → Config → ℕ → Dir → Target → Progress
 plugs_at S c k end (Own q) = plugs c k end [] (record { slot = None; port = q })
 plugs_at S c k end (Child s name) =
     let q = port_for S c.body k end s name in
     plugs c k end ((is_none (child_in c.body s), 6) ∷ (is_none q, 11) ∷ []) (record { slot = Some s; port = unwrap_or q 0 })
 
+-- a component is created in a slot: fault 5 where the slot is taken, fault 12 where a state has
+-- another count of values than the type has variables, fault 13 where the tree would be deeper
+-- than 16
 abbrev pub creates : Declarations → Config → ℕ → ℕ → Bool → Birth → Progress
 creates S c s kind is_misshapen birth =
     takes_effect c ((is_some (child_in c.body s), 5) ∷ (is_misshapen, 12) ∷ (nat_lt 16 (c.body.depth + height_of S kind), 13) ∷ [])
     (effect.Create s kind birth) (with_slot c.body s (Some kind))
 
--- an effect on the child in a slot, which leaves the body as it is
+-- an effect on the child in a slot, which leaves the body as it is: fault 6 where the slot is empty
 abbrev pub tells_child : Config → ℕ → Effect → Progress
 tells_child c s e = takes_effect c ((is_none (child_in c.body s), 6) ∷ []) e c.body
 
@@ -222,6 +242,7 @@ statement_step g c s (Unsubscribe h) = Running (with_body c (with_subs c.body (f
 statement_step g c s (Fail n) = Faulted (100 + n)
 statement_step g c s Escalate = if list_any is_escalate c.effects then Running c else takes_effect c [] effect.Escalate c.body
 
+-- the step of a task
 abbrev pub task_step : Context → Config → Task → Progress
 task_step g c (Do s) = statement_step g c s (out-Stmt s)
 task_step g c (EndBlock names) = Running (with_scope c (take names c.scope))
@@ -232,6 +253,7 @@ abbrev pub config_step : Context → Config → List Task → Progress
 config_step g c [] = Ended c.body c.effects
 config_step g c (t ∷ ts) = task_step g (with_todo c ts) t
 
+-- one step; what has ended stays so
 abbrev pub step : Context → Progress → Progress
 step g (Running c) = config_step g c c.todo
 step g (Ended body effects) = Ended body effects

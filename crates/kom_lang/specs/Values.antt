@@ -13,9 +13,11 @@ pub record Valuation : Type 0 where
   pub scope : List ℤ
   pub it : List ℤ
 
+-- the value, or the number of the fault
 abbrev pub Evaluated : Type 0
 Evaluated = Result ℤ ℕ
 
+-- the value with that number, and 0 where there is none
 abbrev pub at : List ℤ → ℕ → ℤ
 at vs i = unwrap_or (slice_get vs i) (pos 0)
 
@@ -28,10 +30,12 @@ fits (negsuc n) = nat_lt n (2 ^ 63)
 abbrev pub in_range : ℤ → Evaluated
 in_range v = if fits v then Ok v else Err 2
 
+-- a condition holds where its value is not 0
 abbrev pub is_zero : ℤ → Bool
 is_zero (pos n) = n == 0
 is_zero (negsuc n) = false
 
+-- what a comparison gives
 abbrev pub truth : Bool → ℤ
 truth true = pos 1
 truth false = pos 0
@@ -40,6 +44,9 @@ truth false = pos 0
 abbrev pub divided : (ℤ → ℤ → Evaluated) → ℤ → ℤ → Evaluated
 divided f a b = if is_zero b then Err 1 else f a b
 
+-- the operator on the values of both sides, where the left one does not decide alone; a quotient is
+-- cut towards 0, a remainder has the sign of the left side, and both fault where the quotient is
+-- no number of 64 bits
 abbrev pub combined : Binary → ℤ → ℤ → Evaluated
 combined Or a b = Ok (truth (not (is_zero b)))
 combined And a b = Ok (truth (not (is_zero b)))
@@ -65,6 +72,7 @@ decided op a = false
 abbrev pub paired : Binary → Evaluated → Evaluated → Evaluated
 paired op left right = on_ok left (λ a. if decided op a then Ok (truth (not (is_zero a))) else on_ok right (λ b. combined op a b))
 
+-- the value of an expression
 abbrev pub value : Expr → Valuation → Evaluated
 value (Number n) s = Ok n
 value (Var i) s = Ok (at s.vars i)

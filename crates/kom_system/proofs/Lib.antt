@@ -1,0 +1,4 @@
+pub mod Levels
+pub mod Numbered
+pub mod Smallest
+pub mod Limits
