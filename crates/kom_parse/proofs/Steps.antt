@@ -3,9 +3,9 @@ use Rattle.std.proofs.Common.{◌≡◌, ℕ, Bool, true, false, List, [], ◌�
 use Rattle.std.specs.Prelude.{option_map}
 use Rattle.kom_text.specs.declared.token.TokenKind.{TokenKind}
 use Rattle.kom_text.specs.declared.token.TokenKind.TheVariants.{Word}
-use Rattle.kom_parse.specs.declared.spot.Spot.{Spot}
-use Rattle.kom_parse.specs.declared.spot.Numeral.{Numeral}
-use Rattle.kom_parse.specs.declared.spot.WordAt.{WordAt}
+use Rattle.kom_system.specs.declared.parts.Spot.{Spot}
+use Rattle.kom_parse.specs.declared.numeral.Numeral.{Numeral}
+use Rattle.kom_parse.specs.declared.numeral.WordAt.{WordAt}
 use Rattle.kom_parse.specs.Lexemes.{Lexeme}
 use Rattle.kom_parse.specs.Input.{Read, Refuse, first, rest, want, eat_if}
 use Rattle.kom_parse.specs.Rules.{is_kind, any, spot_of, exactly_in, is_exactly, name_in, number_in, exactly, name, number, eat}

@@ -5,8 +5,8 @@ use Rattle.std.proofs.lemmas.Slice.Eq.{bytes_eq-Decides}
 use Rattle.kom_text.specs.declared.token.TokenKind.{TokenKind}
 use Rattle.kom_text.specs.declared.token.TokenKind.TheVariants.{Word, Number, Sign}
 use Rattle.kom_text.specs.Numbers.{decimal}
-use Rattle.kom_parse.specs.declared.spot.Spot.{Spot}
-use Rattle.kom_parse.specs.declared.spot.Numeral.{Numeral}
+use Rattle.kom_system.specs.declared.parts.Spot.{Spot}
+use Rattle.kom_parse.specs.declared.numeral.Numeral.{Numeral}
 use Rattle.kom_parse.specs.Lexemes.{Lexeme, word_lexeme, number_lexeme}
 use Rattle.kom_parse.specs.Input.{Read, Parser, ◌>>=◌, first, want, eat_if}
 use Rattle.kom_parse.specs.Rules.{is_kind, exactly_in, is_exactly, name_in, number_in, exactly, name, number, eat}

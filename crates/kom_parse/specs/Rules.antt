@@ -3,9 +3,9 @@ use Rattle.std.specs.Prelude.{ℕ, pos, Bool, true, false, ◌&&◌, List, [], �
 use Rattle.kom_text.specs.declared.token.TokenKind.{TokenKind}
 use Rattle.kom_text.specs.declared.token.TokenKind.TheVariants.{Word, Number, Sign}
 use Rattle.kom_text.specs.Numbers.{decimal}
-use Rattle.kom_parse.specs.declared.spot.Spot.{Spot}
-use Rattle.kom_parse.specs.declared.spot.Numeral.{Numeral}
-use Rattle.kom_parse.specs.declared.spot.WordAt.{WordAt}
+use Rattle.kom_system.specs.declared.parts.Spot.{Spot}
+use Rattle.kom_parse.specs.declared.numeral.Numeral.{Numeral}
+use Rattle.kom_parse.specs.declared.numeral.WordAt.{WordAt}
 use Rattle.kom_parse.specs.Lexemes.{Lexeme}
 use Rattle.kom_parse.specs.Input.{Parser, ◌>>=◌, pure, by_next, want, eat_if, loop}
 

@@ -1,8 +1,8 @@
 -- What tokens spell, in no order of reading: words of every grammar.
 use Rattle.std.specs.Prelude.{◌≡◌, ℕ, pos, suc, ◌≤◌, ◌<◌, Bool, true, List, [], ◌∷◌, ◌++◌, length, take, codes}
 use Rattle.kom_text.specs.Numbers.{decimal}
-use Rattle.kom_parse.specs.declared.spot.Spot.{Spot}
-use Rattle.kom_parse.specs.declared.spot.Numeral.{Numeral}
+use Rattle.kom_system.specs.declared.parts.Spot.{Spot}
+use Rattle.kom_parse.specs.declared.numeral.Numeral.{Numeral}
 use Rattle.kom_parse.specs.Lexemes.{Lexeme, word_lexeme, sign_lexeme, number_lexeme}
 
 -- items, each with a comma before it; `Spells` says what spells an item

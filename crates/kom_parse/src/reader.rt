@@ -7,10 +7,11 @@ ghost use Rattle.kom_parse.specs.Input.{Reads, Read, first};
 ghost use Rattle.kom_parse.specs.Input as input;
 ghost use Rattle.kom_parse.specs.Rules as rules;
 
-use crate::spot::{Numeral, Spot, WordAt};
+use crate::numeral::{Numeral, WordAt};
 use crate::stop::Stop;
+use kom_lang::Name;
+use kom_system::Spot;
 use kom_text::{Token, TokenKind, number_value};
-use sqlite_items::Items;
 use std::alloc::Global;
 use std::marker::Model;
 
@@ -161,7 +162,7 @@ impl<'t> Reader<'t> {
     {
         match self.next_word() {
             Some(word) => {
-                let name = Items::from_slice(self.alloc, word.bytes)?;
+                let name = Name::of(self.alloc, word.bytes)?;
                 self.skip();
                 Ok(Spot { name, at: word.at })
             }

@@ -15,7 +15,7 @@ fn reads_token_by_token(rt: HostRuntime) -> Result<(), Fail> {
     assert_eq!(rt; reader.word(b"let").ok(), Some(0));
     assert!(rt; reader.sign(b"=").is_err());
     let name = reader.any_word().map_err(|_| Fail::from("no word"))?;
-    assert_eq!(rt; name.name.as_slice(), b"x".as_slice());
+    assert_eq!(rt; name.name.bytes(), b"x".as_slice());
     assert_eq!(rt; name.at, 4);
     assert!(rt; reader.any_word().is_err());
     assert!(rt; !reader.eat(TokenKind::Sign, b";"));

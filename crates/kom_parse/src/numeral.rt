@@ -1,12 +1,3 @@
-use sqlite_items::Items;
-
-/// A name with the place of its first byte in the text.
-#[derive(Debug, Drop)]
-pub struct Spot {
-    pub name: Items<u8>,
-    pub at: u32,
-}
-
 /// The value of a number that is written without a sign, with the place of its first byte in the
 /// text.
 #[derive(Clone, Copy, Debug, PartialEq, Eq)]
