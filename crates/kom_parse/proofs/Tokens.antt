@@ -13,7 +13,7 @@ use Rattle.kom_parse.specs.Rules.{is_kind, exactly_in, is_exactly, name_in, numb
 use Rattle.kom_parse.specs.Spelled.{SpellsName, named}
 use Rattle.kom_parse.proofs.Laws.{IsReader, Wanted, want_reader, want_then, eat_then, wider}
 
-kind_is : (a b : TokenKind) → is_kind a b ≡ true → a ≡ b
+pub kind_is : (a b : TokenKind) → is_kind a b ≡ true → a ≡ b
 kind_is Word Word e = refl
 kind_is Number Number e = refl
 kind_is Sign Sign e = refl

@@ -25,6 +25,11 @@ exactly_in kind bytes (Some l) = if is_kind l.kind kind && bytes_eq l.bytes byte
 abbrev pub is_exactly : TokenKind → List ℕ → Option Lexeme → Bool
 is_exactly kind bytes o = is_some (exactly_in kind bytes o)
 
+-- the bytes of the next token, where it is a sign
+abbrev pub sign_in : Option Lexeme → Option (List ℕ)
+sign_in None = None
+sign_in (Some l) = if is_kind l.kind Sign then Some l.bytes else None
+
 -- the next token, where it is a word that passes the test
 abbrev pub name_in : (List ℕ → Bool) → Option Lexeme → Option Spot
 name_in test None = None

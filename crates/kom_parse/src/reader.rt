@@ -93,7 +93,8 @@ impl<'t> Reader<'t> {
         }
     }
 
-    fn skip(&mut self)
+    /// Takes the next token, if there is one.
+    pub fn skip(&mut self)
         ensures { self.new ≡ input.rest self.old }
     {
         if let [_, rest @ ..] = self.rest {
@@ -150,6 +151,18 @@ impl<'t> Reader<'t> {
                 bytes: &self.text[token.from as usize..token.until as usize],
                 at: token.from,
             }),
+            _ => None,
+        }
+    }
+
+    /// The bytes of the sign that comes next, if one does.
+    pub fn next_sign(&self) -> Option<&'t [u8]>
+        ensures { option_map (λ s. s.now) result ≡ rules.sign_in (first self.now) }
+    {
+        match self.rest {
+            [token, ..] if is_kind(token.kind, TokenKind::Sign) => {
+                Some(&self.text[token.from as usize..token.until as usize])
+            }
             _ => None,
         }
     }
