@@ -1,6 +1,5 @@
 -- What is read is what the tokens spell, and all that they spell is read.
-use Rattle.std.proofs.Common.{◌≡◌, ◌≤◌, ◌<◌, ◌+◌, ◌-◌, ◌&&◌, ◌||◌, ◌∷◌, ◌++◌, ◌⊎◌, ℕ, ℤ, pos, suc, zero, Bool, true, false, not, cond, List, [], Bor, Option, Some, None, length, refl, sym, ◌∙◌, ap, subst, arith, rules, append_assoc, inl, inr}
-use Rattle.std.proofs.lemmas.Grind.{common_steps}
+use Rattle.std.proofs.Common.{◌≡◌, ◌≤◌, ◌<◌, ◌-◌, ◌&&◌, ◌∷◌, ◌++◌, ◌⊎◌, ℕ, ℤ, pos, suc, zero, Bool, true, false, cond, List, [], Bor, Option, Some, None, length, refl, sym, ◌∙◌, ap, subst, arith, append_assoc, inl, inr}
 use Rattle.std.proofs.lemmas.Bool.Decides.{nat_tests}
 use Rattle.std.proofs.lemmas.Slice.Eq.{bytes_eq-Decides}
 use Rattle.std.specs.Prelude.{codes, nat_le, Result, Ok, Err, IfOk, MatchOption}
@@ -12,7 +11,7 @@ use Rattle.kompics.specs.declared.small.system.Atom.TheVariants as atom
 use Rattle.kompics.specs.declared.small.system.Statement.{Statement}
 use Rattle.kompics.specs.declared.small.system.Statement.TheVariants as statement
 use Rattle.kompics.specs.Small.Tokens.{number_of, greatest, is_letter, tokens_of}
-use Rattle.kompics.specs.Small.Systems.{Names, System, IsNumeral, SpellsInt, SpellsAtom, SpellsStatement, SpellsBlock, SpellsSingle, SpellsEmpty, SpellsSystem, IsSystem, nothing, file_limit, is_number, is_name, negative, attribute, event_words, port_words, component_words, middle, closing, are_names, are_declared, differ as differ_in}
+use Rattle.kompics.specs.Small.Systems.{Names, System, IsNumeral, SpellsInt, SpellsAtom, SpellsStatement, SpellsBlock, SpellsSingle, SpellsEmpty, SpellsSystem, IsSystem, nothing, file_limit, is_number, is_name, attribute, event_words, port_words, component_words, middle, closing, are_names, are_declared, differ as differ_in}
 use Rattle.kompics.specs.Small.Reading.{Tokens, after, begins, goes_on, begins_number, number_at, int_at, atom_at, set_at, send_at, statement_at, block_at, after_opening, after_int, after_head, after_block, head_at, is_end, is_closed, system_of, with_int, blocked, single_with, single_at, names_of, minus, counted, negated, unsigned, as_atom, with_atom, with_statement, with_block, with_front, with_rest, set_head, set_tail, send_head, send_tail, set_end, send_end}
 
 -- the first value of a step that was taken, and what it went on to

@@ -1,6 +1,6 @@
 -- How tokens are read, one form after another: what was read and the tokens after it. Laws in
 -- proofs/ say that this is what the tokens spell, and all that they spell.
-use Rattle.std.specs.Prelude.{◌≡◌, ◌&&◌, ℕ, zero, suc, ℤ, pos, Bool, true, false, List, [], ◌∷◌, Option, Some, None, if◌then◌else◌, nat_le, length, slice_get, unwrap_or, codes, map, ◌++◌, Vec}
+use Rattle.std.specs.Prelude.{◌&&◌, ℕ, zero, suc, ℤ, pos, Bool, true, false, List, [], ◌∷◌, Option, Some, None, if◌then◌else◌, nat_le, slice_get, unwrap_or, codes, map, ◌++◌, Vec}
 use Rattle.kompics.specs.declared.small.reading.Names.{Names as Held}
 use Rattle.std.specs.Borrow.{Bor}
 use Rattle.std.specs.Option.{option_map, option_and_then}

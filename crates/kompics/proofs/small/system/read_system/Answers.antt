@@ -1,4 +1,4 @@
-use Rattle.std.proofs.Common.{◌≡◌, ◌∙◌, sym, true}
+use Rattle.std.proofs.Common.{◌∙◌, sym}
 use Rattle.kompics.specs.Small.Reading.{seen}
 use Rattle.kompics.proofs.Reading.{either_ok}
 use Rattle.kompics.proofs.small.system.read_system.Goals as goal
