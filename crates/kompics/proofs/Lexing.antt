@@ -1,5 +1,5 @@
 -- Laws of tokens and numbers.
-use Rattle.std.proofs.Common.{◌≡◌, ◌≤◌, ◌<◌, ◌+◌, ◌-◌, ◌*◌, ◌∷◌, ◌++◌, ℕ, suc, zero, Bool, true, false, ◌&&◌, map, Bor, List, [], Option, Some, None, take, drop, length, get_or, refl, sym, ◌∙◌, ap, arith, rules, drop-cons, one-add, append_assoc, subst}
+use Rattle.std.proofs.Common.{◌≡◌, ◌≤◌, ◌<◌, ◌+◌, ◌-◌, ◌*◌, ◌∷◌, ◌++◌, ℕ, suc, zero, Bool, true, false, ◌&&◌, map, Bor, List, [], Option, Some, None, take, drop, length, get_or, refl, sym, ◌∙◌, ap, arith, drop-cons, append_assoc}
 use Rattle.std.specs.Option.{option_map}
 use Rattle.std.specs.Cmp.Lexicographic.{pointwise}
 use Rattle.std.specs.Str.{bytes_eq}

@@ -1,10 +1,9 @@
 -- Laws of runs.
-use Rattle.std.proofs.Common.{◌≡◌, ◌&&◌, ◌∷◌, ℕ, ℤ, Bool, true, false, not, List, [], None, refl, sym, ◌∙◌, ap, subst, is_none}
+use Rattle.std.proofs.Common.{◌≡◌, ◌&&◌, ◌∷◌, ℤ, true, not, List, [], refl, sym, ◌∙◌, ap, subst, is_none}
 use Rattle.kompics.specs.declared.small.record.Item.TheVariants as item
-use Rattle.kompics.specs.declared.small.record.Entry.{Entry}
 use Rattle.kompics.specs.declared.small.record.Entry.TheVariants as entry
 use Rattle.kompics.specs.Small.Systems.{System, Plan}
-use Rattle.kompics.specs.Small.Records.{History, IsSimulation, IsFinished, hand, is_ready, pending}
+use Rattle.kompics.specs.Small.Records.{History, IsSimulation, IsFinished, is_ready, pending}
 use Rattle.kompics.specs.Small.Traces.{is_finished, is_empty}
 
 -- Start alone, where nothing is to be released

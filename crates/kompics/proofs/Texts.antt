@@ -1,13 +1,12 @@
 -- Laws of the text of a record.
-use Rattle.std.proofs.Common.{◌≡◌, ◌<◌, ◌+◌, ◌∷◌, ◌++◌, ℕ, ℤ, suc, List, [], Some, length, take, refl, sym, ◌∙◌, ap, subst, arith, append_assoc, map, reverse, get_or, add-one, zero-add}
-use Rattle.std.proofs.lemmas.List.{take_more, reverse-append}
+use Rattle.std.proofs.Common.{◌≡◌, ◌<◌, ◌+◌, ◌∷◌, ◌++◌, ℕ, ℤ, List, [], Some, length, take, refl, sym, ◌∙◌, ap, arith, append_assoc, get_or, zero-add}
+use Rattle.std.proofs.lemmas.List.{take_more}
 use Rattle.std.proofs.lemmas.List.Concat.{flat_map-append}
 use Rattle.std.proofs.lemmas.Option.{slice_get_within, get_or_from_slice_get, slice_get-get_or}
 use Rattle.std.specs.Prelude.{slice_get}
 use Rattle.std.specs.List.{flat_map}
 use Rattle.kompics.specs.Small.Systems.{System}
-use Rattle.kompics.specs.Small.Records.{History}
-use Rattle.kompics.specs.Small.Traces.{lines, entry_text, release_text, releases_text, summary, trace_text, is_finished}
+use Rattle.kompics.specs.Small.Traces.{release_text, releases_text}
 
 -- one more of a list
 pub take_next : {X : Type 0} (xs : List X) (i : ℕ) (x : X) → slice_get xs i ≡ Some x → take (i + 1) xs ≡ take i xs ++ x ∷ []

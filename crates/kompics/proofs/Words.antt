@@ -1,5 +1,5 @@
 -- Laws of words.
-use Rattle.std.proofs.Common.{◌≡◌, ◌≤◌, ◌∷◌, ℕ, List, [], Option, Some, None, length, refl, subst, arith, inl, inr}
+use Rattle.std.proofs.Common.{◌≡◌, ◌≤◌, ◌∷◌, ℕ, List, [], Option, Some, None, length, refl, subst, arith, inr}
 use Rattle.std.specs.Prelude.{slice_get, IfSome, MatchOption}
 use Rattle.kom_io.specs.Faults.{Rose}
 use Rattle.kompics.specs.declared.top.Answer.{Answer}

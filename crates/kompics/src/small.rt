@@ -2,6 +2,7 @@
 //! go away when the whole language is there.
 
 pub mod machine;
+pub mod reading;
 pub mod record;
 pub mod scenario;
 pub mod system;

@@ -5,6 +5,9 @@ use std::test::Fail;
 
 const SYSTEM: &str = "system 1;\ncomponent Main { }\nroot Main();\n";
 
+const SINGLE: &str =
+    "system 1;\nevent N(n);\nport P { plus N; minus N; }\ncomponent Main {\n  provides p : P;\n  var got = -5;\n  on N at p as h { got = it.n; trigger N(got) at p; }\n}\nroot Main();\n";
+
 const SCENARIO: &str = "scenario 1;";
 
 const TRACE: &str =
@@ -80,32 +83,53 @@ fn writes_the_trace_of_an_empty_component(rt: HostRuntime) -> Result<(), Fail> {
 }
 
 #[test]
+fn writes_the_trace_of_a_component_without_events(rt: HostRuntime) -> Result<(), Fail> {
+    let trace =
+        "trace 1\n0 0 took 0 start\n1 0 did 0 done active -5\nend quiet\ntook 1 did 1 moved 0 queued 0 out 0\n";
+    let words = ["sim", "s", "z"];
+    let (status, out) = sim(
+        rt.alloc(),
+        &words,
+        SINGLE.as_bytes(),
+        SCENARIO.as_bytes(),
+        &PLAIN,
+    )?;
+    assert_eq!(rt; status, 0);
+    assert_eq!(rt; out.as_slice(), trace.as_bytes());
+    Ok(())
+}
+
+#[test]
 fn answers_texts_and_words_that_are_no_run(rt: HostRuntime) -> Result<(), Fail> {
     let slot = "system 1;\ncomponent Main { slot s; }\nroot Main();\n";
-    for (words, system, scenario, status, out) in [
-        (["sim", "s", "z"], slot, SCENARIO, 1, NO_SYSTEM),
-        (["sim", "s", "z"], "", SCENARIO, 1, NO_SYSTEM),
+    for (command, s, z, system, scenario, status, out) in [
+        ("sim", "s", "z", slot, SCENARIO, 1, NO_SYSTEM),
+        ("sim", "s", "z", "", SCENARIO, 1, NO_SYSTEM),
         (
-            ["sim", "s", "z"],
+            "sim",
+            "s",
+            "z",
             "system 01; component M { } root M ( ) ;",
             SCENARIO,
             1,
             NO_SYSTEM,
         ),
         (
-            ["sim", "s", "z"],
+            "sim",
+            "s",
+            "z",
             SYSTEM,
             "scenario 1; at 0 rai",
             1,
             NO_SCENARIO,
         ),
-        (["sim", "s", "x"], SYSTEM, SCENARIO, 5, ""),
-        (["sim", "x", "z"], SYSTEM, SCENARIO, 5, ""),
-        (["run", "s", "z"], SYSTEM, SCENARIO, 2, USAGE),
+        ("sim", "s", "x", SYSTEM, SCENARIO, 5, ""),
+        ("sim", "x", "z", SYSTEM, SCENARIO, 5, ""),
+        ("run", "s", "z", SYSTEM, SCENARIO, 2, USAGE),
     ] {
         let (got, text) = sim(
             rt.alloc(),
-            &words,
+            &[command, s, z],
             system.as_bytes(),
             scenario.as_bytes(),
             &PLAIN,

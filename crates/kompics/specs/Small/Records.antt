@@ -2,13 +2,12 @@
 --
 -- A record is seen as a history: a list of entries, the newest first. The tail of `e ∷ P` is the
 -- record before e, and the length of P is the position of e.
-use Rattle.std.specs.Prelude.{◌≡◌, ◌+◌, ◌≤◌, ◌==◌, ◌&&◌, ◌||◌, ◌++◌, ℕ, ℤ, Bool, true, false, not, IsTrue, List, [], ◌∷◌, Option, Some, None, is_none, if◌then◌else◌, nat_lt, length, drop, filter, map, Contains, All}
-use Rattle.kom_base.specs.declared.numbers.EntryNo.{EntryNo}
+use Rattle.std.specs.Prelude.{◌≡◌, ◌+◌, ◌≤◌, ◌==◌, ◌&&◌, ◌||◌, ◌++◌, ℕ, ℤ, Bool, true, false, not, List, [], ◌∷◌, Option, Some, None, is_none, if◌then◌else◌, nat_lt, length, drop, filter, map, Contains, All}
 use Rattle.kompics.specs.declared.small.record.Item.{Item}
 use Rattle.kompics.specs.declared.small.record.Item.TheVariants as item
 use Rattle.kompics.specs.declared.small.record.Entry.{Entry}
 use Rattle.kompics.specs.declared.small.record.Entry.TheVariants as entry
-use Rattle.kompics.specs.Small.Systems.{System, Plan, Raise}
+use Rattle.kompics.specs.Small.Systems.{System, Plan}
 
 abbrev pub History : Type 0
 History = List Entry

@@ -1,5 +1,5 @@
 -- The text of a record.
-use Rattle.std.specs.Prelude.{◌≡◌, ◌+◌, ◌&&◌, ◌++◌, ℕ, ℤ, Bool, true, false, not, List, [], ◌∷◌, is_none, if◌then◌else◌, length, codes}
+use Rattle.std.specs.Prelude.{◌+◌, ◌&&◌, ◌++◌, ℕ, ℤ, Bool, true, false, not, List, [], ◌∷◌, is_none, if◌then◌else◌, length, codes}
 use Rattle.std.specs.List.{flat_map}
 use Rattle.std.specs.Fmt.{decimal, signed_decimal}
 use Rattle.kom_base.specs.declared.numbers.EntryNo.{EntryNo}

@@ -51,6 +51,12 @@ impl<'a> Tokens<'a> {
         }
     }
 
+    pub fn as_slice(&self) -> &[&'a [u8]]
+        ensures { map (λ b. b.now) result.now ≡ self.now }
+    {
+        self.items.as_slice()
+    }
+
     /// Whether the tokens are these words.
     pub fn are(&self, words: &[&[u8]]) -> bool
         ensures { IsTrue result ↔ (self.now ≡ map (λ b. b.now) words.now) }
@@ -62,7 +68,7 @@ impl<'a> Tokens<'a> {
 const GREATEST: u128 = 9223372036854775807;
 
 /// Whether two lists of byte strings are equal, element by element from a place on.
-fn are_from(tokens: &[&[u8]], words: &[&[u8]]) -> bool
+pub fn are_from(tokens: &[&[u8]], words: &[&[u8]]) -> bool
     ensures { IsTrue result ↔ (map (λ b. b.now) tokens.now ≡ map (λ b. b.now) words.now) }
 {
     tokens == words
@@ -138,7 +144,7 @@ fn number_piece(bytes: &[u8]) -> Piece
 }
 
 /// The number that these digits go on to, where it is at most 2^63 - 1.
-fn number_from(start: u64, digits: &[u8]) -> Option<u64>
+pub fn number_from(start: u64, digits: &[u8]) -> Option<u64>
     requires { start ≤ greatest }
     ensures { SomeIff result (number_from start digits.now ≤ greatest) (number_from start digits.now) }
 {

@@ -1,5 +1,5 @@
-use Rattle.std.proofs.Common.{◌≡◌, ◌∙◌, List, ℕ, Option, Some, None, refl, sym, ap, subst, inl}
-use Rattle.kompics.specs.Small.Systems.{System, IsSystem}
+use Rattle.std.proofs.Common.{◌≡◌, ◌∙◌, List, ℕ, Option, refl, sym, subst, inl}
+use Rattle.kompics.specs.Small.Systems.{IsSystem}
 use Rattle.kompics.specs.Top.{IsSecond}
 use Rattle.kompics.proofs.Words.{told, none_read, some_read, second_answers}
 use Rattle.kompics.proofs.top.answer_to.Goals as goal

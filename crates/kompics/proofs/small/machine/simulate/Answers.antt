@@ -1,4 +1,4 @@
-use Rattle.std.proofs.Common.{◌≡◌, ◌∷◌, [], true, sym, ap, ◌∙◌}
+use Rattle.std.proofs.Common.{ap, ◌∙◌}
 use Rattle.kompics.proofs.Runs.{start_only, start_runs}
 use Rattle.kompics.proofs.small.machine.simulate.Goals as goal
 

@@ -1,4 +1,4 @@
-use Rattle.std.proofs.Common.{◌≡◌, ◌∙◌, ◌+◌, ◌++◌, ◌∷◌, [], List, ℕ, take, drop, sym, ap, arith}
+use Rattle.std.proofs.Common.{◌∙◌, ◌++◌, ◌∷◌, [], take, drop, sym, ap}
 use Rattle.std.specs.Option.{option_map}
 use Rattle.kompics.specs.Small.Tokens.{tokens_of}
 use Rattle.kompics.proofs.Lexing.{gap_step, token_step, one_more}

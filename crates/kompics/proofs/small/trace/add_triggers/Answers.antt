@@ -1,7 +1,6 @@
-use Rattle.std.proofs.Common.{◌<◌, ◌∷◌, ◌++◌, ◌∙◌, ap, pos, get_or, length, arith}
-use Rattle.std.specs.Fmt.{signed_decimal}
+use Rattle.std.proofs.Common.{◌<◌, pos, get_or, length, arith}
 use Rattle.kompics.specs.Small.Traces.{trigger_text}
-use Rattle.kompics.proofs.Texts.{text_more, append_nothing, there}
+use Rattle.kompics.proofs.Texts.{text_more, there}
 use Rattle.kompics.proofs.small.trace.add_triggers.Goals as goal
 
 pub loop-i-preserved : goal.loop-i-preserved

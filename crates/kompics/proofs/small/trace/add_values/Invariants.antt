@@ -1,6 +1,5 @@
 use Rattle.std.proofs.Common.{◌≡◌, ◌++◌, take}
-use Rattle.std.specs.List.{flat_map}
-use Rattle.kompics.specs.Small.Traces.{values_text, trigger_text}
+use Rattle.kompics.specs.Small.Traces.{values_text}
 use Rattle.kompics.proofs.small.trace.add_values.Given as goal
 
 -- the texts so far
