@@ -4,8 +4,8 @@ use Rattle.std.specs.List.{filter}
 use Rattle.std.specs.Ordering.{is_lt, is_eq, ordering_reverse}
 use Rattle.std.specs.Option.{IsSome, option_map}
 use Rattle.std.specs.declared.cmp.Ordering.TheVariants.{Less, Equal, Greater}
-use Rattle.std.specs.Cmp.{IsTotalOrder}
-use Rattle.kom_index.specs.Entries.{AllKeys, Rises, has_key, value_of, without, revalued, inserted, first_from}
+use Rattle.std.specs.Cmp.{IsTotalOrder, tied_itself}
+use Rattle.kom_index.specs.Entries.{AllKeys, Rises, has_key, value_of, without, revalued, inserted, first_from, IsFirstFrom}
 
 pub all_map : {K V : Type 0} (P Q : K → Type 0) → ((k : K) → P k → Q k) → (es : List (K × V)) → AllKeys P es → AllKeys Q es
 all_map P Q f [] h = tt
@@ -425,3 +425,46 @@ module _ {K V : Type 0} (R : K → K → Ordering) (o : IsTotalOrder R) where
       at : (b : Bool) → is_eq (R q k) ≡ b → cond b (option_map (λ _. v) (value_of R q es)) (value_of R q es) ≡ cond b (Some v) (value_of R q es)
       at true t = filled (value_of R q es) (subst IsSome (sym (value-tied q k es (equal_of _ t))) some)
       at false t = refl
+
+  -- ---- the first from a bound on is the least
+
+  above_present : (x : K) (es : List (K × V)) → AllKeys (λ y. R x y ≡ Less) es → (q : K) → IsSome (value_of R q es) → R x q ≡ Less
+  above_present x [] h q some = absurd (cc)
+  above_present x (e ∷ es) h q some = go (has_key R q e) refl (above_present x es h.1 q)
+    where
+      go : (b : Bool) → has_key R q e ≡ b → (IsSome (value_of R q es) → R x q ≡ Less) → R x q ≡ Less
+      go true t rest = less o q x (o.congr q e.0 x (equal_of _ t) ∙ greater o x e.0 h.0)
+      go false t rest = rest (subst IsSome (ap (λ b. cond b (Some e.1) (value_of R q es)) t) some)
+
+  pub first_is : (low : K) (es : List (K × V)) → Rises R es → IsFirstFrom R low es (option_map (λ (e : K × V). e.0) (first_from R low es))
+  first_is low [] h = λ q some. absurd (cc)
+  first_is low (e ∷ es) h = go (is_lt (R e.0 low)) refl (first_is low es h.1)
+    where
+      -- an entry that the bound passes
+      passed : is_lt (R e.0 low) ≡ true → (q : K) → IsSome (value_of R q (e ∷ es)) → is_lt (R q low) ≡ false → IsSome (value_of R q es)
+      passed t q some past = at (has_key R q e) refl
+        where
+          at : (b : Bool) → has_key R q e ≡ b → IsSome (value_of R q es)
+          at true k = absurd (cc (t, past, ap is_lt (o.congr q e.0 low (equal_of _ k))))
+          at false k = subst IsSome (ap (λ b. cond b (Some e.1) (value_of R q es)) k) some
+
+      more : (k : K) → IsSome (value_of R k es) → IsSome (value_of R k (e ∷ es))
+      more k some = elim (has_key R k e) as (λ b. IsSome (cond b (Some e.1) (value_of R k es))) [ true ↦ refl | false ↦ some ]
+
+      late : (g : Option K) → is_lt (R e.0 low) ≡ true → IsFirstFrom R low es g → IsFirstFrom R low (e ∷ es) g
+      late None t rest = λ q some. below q some (is_lt (R q low)) refl
+        where
+          below : (q : K) → IsSome (value_of R q (e ∷ es)) → (b : Bool) → is_lt (R q low) ≡ b → is_lt (R q low) ≡ true
+          below q some true p = p
+          below q some false p = rest q (passed t q some p)
+      late (Some k) t rest = (more k rest.0, rest.1, λ q some past. rest.2 q (passed t q some past) past)
+
+      go : (b : Bool) → is_lt (R e.0 low) ≡ b → IsFirstFrom R low es (option_map (λ (e : K × V). e.0) (first_from R low es))
+          → IsFirstFrom R low (e ∷ es) (option_map (λ (e : K × V). e.0) (first_from R low (e ∷ es)))
+      go true t rest = subst (IsFirstFrom R low (e ∷ es)) (sym (ap (λ b. option_map (λ (e : K × V). e.0) (cond (not b) (Some e) (first_from R low es))) t)) (late (option_map (λ (e : K × V). e.0) (first_from R low es)) t rest)
+      go false t rest = subst (IsFirstFrom R low (e ∷ es)) (sym (ap (λ b. option_map (λ (e : K × V). e.0) (cond (not b) (Some e) (first_from R low es))) t))
+          (subst IsSome (sym (ap (λ c. cond (is_eq c) (Some e.1) (value_of R e.0 es)) (tied_itself o e.0))) refl, t, λ q some past. at q some (has_key R q e) refl)
+        where
+          at : (q : K) → IsSome (value_of R q (e ∷ es)) → (b : Bool) → has_key R q e ≡ b → is_lt (R q e.0) ≡ false
+          at q some true k = ap is_lt (equal_of _ k)
+          at q some false k = ap is_lt (greater o e.0 q (above_present e.0 es h.0 q (subst IsSome (ap (λ b. cond b (Some e.1) (value_of R q es)) k) some)))

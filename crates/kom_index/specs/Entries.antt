@@ -1,6 +1,7 @@
 -- Lists of entries, each a key and a value, and the order of their keys.
-use Rattle.std.specs.Prelude.{◌≡◌, Bool, not, List, [], ◌∷◌, filter, find, map, if◌then◌else◌, Option, Some, None}
+use Rattle.std.specs.Prelude.{◌≡◌, Bool, true, false, not, List, [], ◌∷◌, filter, find, map, if◌then◌else◌, Option, Some, None}
 use Rattle.std.specs.Ordering.{is_lt, is_eq}
+use Rattle.std.specs.Option.{IsSome}
 use Rattle.std.specs.declared.cmp.Ordering.{Ordering}
 use Rattle.std.specs.declared.cmp.Ordering.TheVariants.{Less}
 
@@ -40,3 +41,8 @@ module _ {K V : Type 0} (R : K → K → Ordering) where
   -- the first entry whose key is not below a bound
   abbrev pub first_from : K → List (K × V) → Option (K × V)
   first_from low es = find (λ e. not (is_lt (R e.0 low))) es
+
+  -- a key that is there, and the least that is not below a bound; none where all are below it
+  abbrev pub IsFirstFrom : K → List (K × V) → Option K → Type 0
+  IsFirstFrom low es None = (q : K) → IsSome (value_of q es) → is_lt (R q low) ≡ true
+  IsFirstFrom low es (Some k) = IsSome (value_of k es) × (is_lt (R k low) ≡ false) × ((q : K) → IsSome (value_of q es) → is_lt (R q low) ≡ false → is_lt (R q k) ≡ false)

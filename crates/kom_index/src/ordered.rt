@@ -1,7 +1,7 @@
-ghost use Rattle.std.specs.Prelude.{◌≡◌, ◌+◌, ◌-◌, ◌<◌, ◌≤◌, [], ◌∷◌, ◌++◌, Some, None, IsSome, OnOk, OnErr, length, if◌then◌else◌, vec_len, vec_capacity};
+ghost use Rattle.std.specs.Prelude.{◌≡◌, ◌+◌, ◌-◌, ◌<◌, ◌≤◌, max, [], ◌∷◌, ◌++◌, Some, None, IsSome, OnOk, OnErr, length, if◌then◌else◌, vec_len, vec_capacity};
 ghost use Rattle.std.specs.Ordering.{is_eq};
 ghost use Rattle.std.specs.Option.{option_copied, option_map};
-ghost use Rattle.kom_index.specs.Entries.{Rises, value_of, without, revalued, inserted, first_from};
+ghost use Rattle.kom_index.specs.Entries.{Rises, value_of, without, revalued, inserted, first_from, IsFirstFrom};
 ghost use Rattle.kom_index.specs.Stock.{entries, spare};
 
 use crate::tree::{Freed, Tree};
@@ -57,6 +57,7 @@ impl<K: Ord, V> Ordered<K, V> {
     /// The least key that is not below a bound.
     pub fn first_from(&self, low: &K) -> Option<&K>
         ensures key { option_copied result ≡ option_map (λ e. e.0) (first_from K.cmp low.now (entries self.now)) }
+        ensures least { IsFirstFrom K.cmp low.now (entries self.now) (option_copied result) }
         ensures rises { Rises K.cmp (entries self.now) }
     {
         self.tree.first_from(low)
@@ -68,6 +69,7 @@ impl<K: Ord, V> Ordered<K, V> {
         ensures old { value_of K.cmp key.now (entries self.old) ≡ Some value.new }
         ensures new { entries self.new ≡ revalued K.cmp key.now value.old (entries self.old) }
         ensures values { (q : K) → value_of K.cmp q (entries self.new) ≡ (if is_eq (K.cmp q key.now) then Some value.old else value_of K.cmp q (entries self.old)) }
+        ensures rises { Rises K.cmp (entries self.new) }
         ensures spare { spare self.new ≡ spare self.old }
     {
         self.tree.swap(key, value);
@@ -80,6 +82,7 @@ impl<K: Ord + Drop, V: Drop> Ordered<K, V> {
         ensures same { entries self.new ≡ entries self.old }
         ensures ok { OnOk result (n ≤ spare self.new) }
         ensures not_less { spare self.old ≤ spare self.new }
+        ensures not_more { spare self.new ≤ max (spare self.old) n }
     {
         while self.spare < n {
             self.grow()?;
@@ -109,6 +112,7 @@ impl<K: Ord + Drop, V: Drop> Ordered<K, V> {
         requires spare { 0 < spare self.old }
         ensures new { entries self.new ≡ inserted K.cmp key value (entries self.old) }
         ensures values { (q : K) → value_of K.cmp q (entries self.new) ≡ (if is_eq (K.cmp q key) then Some value else value_of K.cmp q (entries self.old)) }
+        ensures rises { Rises K.cmp (entries self.new) }
         ensures spare { spare self.new ≡ spare self.old - 1 }
     {
         let left = take(&mut self.sides);
@@ -124,6 +128,7 @@ impl<K: Ord + Drop, V: Drop> Ordered<K, V> {
         ensures value { value_of K.cmp key.now (entries self.old) ≡ Some result }
         ensures rest { entries self.new ≡ without K.cmp key.now (entries self.old) }
         ensures values { (q : K) → value_of K.cmp q (entries self.new) ≡ (if is_eq (K.cmp q key.now) then None else value_of K.cmp q (entries self.old)) }
+        ensures rises { Rises K.cmp (entries self.new) }
         ensures spare { spare self.new ≡ spare self.old + 1 }
     {
         let Freed {

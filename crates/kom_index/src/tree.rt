@@ -120,6 +120,7 @@ impl<K: Ord, V> Tree<K, V> {
         requires { IsSome (value_of K.cmp key.now self.old) }
         ensures old { value_of K.cmp key.now self.old ≡ Some value.new }
         ensures new { self.new ≡ revalued K.cmp key.now value.old self.old }
+        ensures rises { Rises K.cmp self.old }
     {
         match &mut self.node {
             Node::Leaf => {}
@@ -136,7 +137,8 @@ impl<K: Ord + Drop, V: Drop> Tree<K, V> {
     /// Adds an entry whose key is not there, in the memory of two empty sides.
     pub fn insert(&mut self, key: K, value: V, left: Box<Tree<K, V>>, right: Box<Tree<K, V>>)
         requires { value_of K.cmp key self.old ≡ None }
-        ensures { self.new ≡ inserted K.cmp key value self.old }
+        ensures new { self.new ≡ inserted K.cmp key value self.old }
+        ensures rises { Rises K.cmp self.old }
     {
         self.node = match mem::replace(&mut self.node, Node::Leaf) {
             Node::Leaf => fork(emptied(left), key, value, emptied(right)),

@@ -3,7 +3,7 @@ use Rattle.std.specs.Option.{IsSome}
 use Rattle.std.specs.Ordering.{is_eq}
 use Rattle.kom_index.specs.Stock.{entries}
 use Rattle.kom_index.specs.Entries.{value_of}
-use Rattle.kom_index.proofs.Order.{length-without, value-without}
+use Rattle.kom_index.proofs.Order.{length-without, value-without, rises_without}
 use Rattle.kom_index.proofs.ordered.Ordered.remove.Goals as goal
 
 pub invariant_of-self : goal.invariant_of-self
@@ -19,3 +19,6 @@ invariant_of-self g c =
 pub returns-clause-values : goal.returns-clause-values
 returns-clause-values g c = λ q.
     ap (value_of g.K.Ord.cmp q) c.remove-key.ensures.rest ∙ value-without g.K.Ord.cmp g.met.K.Ord.total c.args.key.now c.self.inside.tree q ∙ ap (λ d. cond (is_eq (g.K.Ord.cmp q c.args.key.now)) None (value_of g.K.Ord.cmp q (entries d))) c.self.view_is
+
+pub returns-clause-rises : goal.returns-clause-rises
+returns-clause-rises g c = rw c.remove-key.ensures.rest (rises_without g.K.Ord.cmp g.met.K.Ord.total c.args.key.now c.self.inside.tree c.remove-key.ensures.rises)

@@ -21,7 +21,7 @@ settle-requires g t c =
     let f = at_fork g.K.Ord.cmp c.args.self.now c.in-Fork.l.value c.in-Fork.k c.in-Fork.v c.in-Fork.r.value _ c.self.view_is c.self.invariant (ap entries_of (sym c.replace.ensures.value ∙ c.in-Fork.is)) in
     let lt : is_lt (g.K.Ord.cmp c.args.key c.in-Fork.k) ≡ true = cc in
     let change = insert_less g.K.Ord.cmp g.met.K.Ord.total c.args.key c.args.value c.in-Fork.l.value (c.in-Fork.k, c.in-Fork.v) c.in-Fork.r.value f.rises (sym (ap (value_of g.K.Ord.cmp c.args.key) f.is) ∙ c.requires) (lt_less _ lt) in
-    rw (c.insert.ensures, c.deref_mut.ensures.value) change.rises
+    rw (c.insert.ensures.new, c.deref_mut.ensures.value) change.rises
 
 pub insert-requires-else-is_lt : goal.insert-requires-else-is_lt
 insert-requires-else-is_lt g t c =
@@ -39,10 +39,10 @@ settle-requires-else-is_lt g t c =
     let f = at_fork g.K.Ord.cmp c.args.self.now c.in-Fork.l.value c.in-Fork.k c.in-Fork.v c.in-Fork.r.value _ c.self.view_is c.self.invariant (ap entries_of (sym c.replace.ensures.value ∙ c.in-Fork.is)) in
     let past : is_lt (g.K.Ord.cmp c.args.key c.in-Fork.k) ≡ false = cc in
     let change = insert_more g.K.Ord.cmp g.met.K.Ord.total c.args.key c.args.value c.in-Fork.l.value (c.in-Fork.k, c.in-Fork.v) c.in-Fork.r.value f.rises (sym (ap (value_of g.K.Ord.cmp c.args.key) f.is) ∙ c.requires) past in
-    rw (c.insert-else-is_lt.ensures, c.deref_mut-else-is_lt.ensures.value) change.rises
+    rw (c.insert-else-is_lt.ensures.new, c.deref_mut-else-is_lt.ensures.value) change.rises
 
-pub returns : goal.returns
-returns g t c =
+pub returns-clause-new : goal.returns-clause-new
+returns-clause-new g t c =
     elim c.match-replace.branch [
       | in-Leaf w ↦
           let empty : c.args.self.now ≡ [] = sym c.self.view_is ∙ ap entries_of (sym c.replace.ensures.value ∙ w.in-Leaf.is) in
@@ -51,12 +51,12 @@ returns g t c =
           let f = at_fork g.K.Ord.cmp c.args.self.now w.in-Fork.l.value w.in-Fork.k w.in-Fork.v w.in-Fork.r.value _ c.self.view_is c.self.invariant (ap entries_of (sym c.replace.ensures.value ∙ w.in-Fork.is)) in
           let lt : is_lt (g.K.Ord.cmp c.args.key w.in-Fork.k) ≡ true = cc in
           let change = insert_less g.K.Ord.cmp g.met.K.Ord.total c.args.key c.args.value w.in-Fork.l.value (w.in-Fork.k, w.in-Fork.v) w.in-Fork.r.value f.rises (sym (ap (value_of g.K.Ord.cmp c.args.key) f.is) ∙ c.requires) (lt_less _ lt) in
-          rw (w.t-15-is, w.settle.ensures, w.insert.ensures, w.deref_mut.ensures.value, f.is) change.is
+          rw (w.t-15-is, w.settle.ensures, w.insert.ensures.new, w.deref_mut.ensures.value, f.is) change.is
       | in-Fork+else-is_lt w ↦
           let f = at_fork g.K.Ord.cmp c.args.self.now w.in-Fork.l.value w.in-Fork.k w.in-Fork.v w.in-Fork.r.value _ c.self.view_is c.self.invariant (ap entries_of (sym c.replace.ensures.value ∙ w.in-Fork.is)) in
           let past : is_lt (g.K.Ord.cmp c.args.key w.in-Fork.k) ≡ false = cc in
           let change = insert_more g.K.Ord.cmp g.met.K.Ord.total c.args.key c.args.value w.in-Fork.l.value (w.in-Fork.k, w.in-Fork.v) w.in-Fork.r.value f.rises (sym (ap (value_of g.K.Ord.cmp c.args.key) f.is) ∙ c.requires) past in
-          rw (w.t-15-is, w.settle-else-is_lt.ensures, w.insert-else-is_lt.ensures, w.deref_mut-else-is_lt.ensures.value, f.is) change.is
+          rw (w.t-15-is, w.settle-else-is_lt.ensures, w.insert-else-is_lt.ensures.new, w.deref_mut-else-is_lt.ensures.value, f.is) change.is
     ]
 
 pub invariant_of-self : goal.invariant_of-self
@@ -67,10 +67,10 @@ invariant_of-self g t c =
           let f = at_fork g.K.Ord.cmp c.args.self.now w.in-Fork.l.value w.in-Fork.k w.in-Fork.v w.in-Fork.r.value _ c.self.view_is c.self.invariant (ap entries_of (sym c.replace.ensures.value ∙ w.in-Fork.is)) in
           let lt : is_lt (g.K.Ord.cmp c.args.key w.in-Fork.k) ≡ true = cc in
           let change = insert_less g.K.Ord.cmp g.met.K.Ord.total c.args.key c.args.value w.in-Fork.l.value (w.in-Fork.k, w.in-Fork.v) w.in-Fork.r.value f.rises (sym (ap (value_of g.K.Ord.cmp c.args.key) f.is) ∙ c.requires) (lt_less _ lt) in
-          rw (w.t-15-is, w.settle.ensures, w.insert.ensures, w.deref_mut.ensures.value) change.rises
+          rw (w.t-15-is, w.settle.ensures, w.insert.ensures.new, w.deref_mut.ensures.value) change.rises
       | in-Fork+else-is_lt w ↦
           let f = at_fork g.K.Ord.cmp c.args.self.now w.in-Fork.l.value w.in-Fork.k w.in-Fork.v w.in-Fork.r.value _ c.self.view_is c.self.invariant (ap entries_of (sym c.replace.ensures.value ∙ w.in-Fork.is)) in
           let past : is_lt (g.K.Ord.cmp c.args.key w.in-Fork.k) ≡ false = cc in
           let change = insert_more g.K.Ord.cmp g.met.K.Ord.total c.args.key c.args.value w.in-Fork.l.value (w.in-Fork.k, w.in-Fork.v) w.in-Fork.r.value f.rises (sym (ap (value_of g.K.Ord.cmp c.args.key) f.is) ∙ c.requires) past in
-          rw (w.t-15-is, w.settle-else-is_lt.ensures, w.insert-else-is_lt.ensures, w.deref_mut-else-is_lt.ensures.value) change.rises
+          rw (w.t-15-is, w.settle-else-is_lt.ensures, w.insert-else-is_lt.ensures.new, w.deref_mut-else-is_lt.ensures.value) change.rises
     ]
