@@ -1,0 +1,6 @@
+pub mod NameSteps
+pub mod Steps
+pub mod ExprReads
+pub mod ExprWhole
+pub mod ExprSteps
+pub mod Exact

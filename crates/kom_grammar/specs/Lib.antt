@@ -1,0 +1,5 @@
+pub mod Words
+pub mod Expressions
+pub mod Statements
+pub mod Files
+pub mod Example

@@ -1,0 +1,4 @@
+pub mod Entries
+pub mod Shape
+pub mod Sound
+pub mod Stock

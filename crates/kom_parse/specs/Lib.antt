@@ -1,0 +1,4 @@
+pub mod Lexemes
+pub mod Input
+pub mod Rules
+pub mod Spelled

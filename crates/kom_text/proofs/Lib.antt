@@ -1,0 +1,4 @@
+pub mod Decimals
+pub mod Firsts
+pub mod Cuts
+pub mod Once

@@ -1,0 +1,4 @@
+pub mod Forest
+pub mod Parts
+pub mod Sound
+pub mod Steps

@@ -1,0 +1,5 @@
+mod Lexing
+mod Reading
+mod Runs
+mod Texts
+mod Words

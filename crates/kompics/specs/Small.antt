@@ -1,0 +1,7 @@
+-- Small systems: one component with at most one port, one variable and one handler.
+pub mod Tokens
+pub mod Systems
+pub mod Reading
+pub mod Records
+pub mod Tallies
+pub mod Traces

@@ -1,0 +1,44 @@
+//! The program: it reads systems and scenarios, runs them and writes their traces.
+#![tactic(auto)]
+
+mod small;
+#[cfg(test)]
+mod tests;
+mod top;
+
+use kom_io::{FileShelf, OutSink, Words};
+use std::alloc::AllocError;
+use std::env;
+use std::io::ErrorKind;
+use std::process::ExitCode;
+use std::rt::Env;
+use top::quiet_top;
+
+fn main(rt: HostRuntime) -> ExitCode {
+    let Ok(words) = words_of(&rt) else {
+        return ExitCode::from(7);
+    };
+    let Ok(mut shelf) = FileShelf::make(&rt, rt.alloc(), &words) else {
+        return ExitCode::from(7);
+    };
+    let mut out = OutSink::new(&rt);
+    let end = quiet_top(rt.alloc(), &words, &mut shelf, &mut out);
+    ExitCode::from(end.status)
+}
+
+/// The words after the program's name; none where one of them is no text.
+fn words_of<R: Env + AllocGlobal>(rt: &R) -> Result<Words, AllocError> {
+    let mut words = Words::new(rt.alloc());
+    match env::args(rt) {
+        Ok(args) => {
+            for arg in args.skip(1) {
+                words.push(arg.as_str())?;
+            }
+            Ok(words)
+        }
+        Err(error) => match error.kind() {
+            ErrorKind::OutOfMemory => Err(AllocError),
+            _ => Ok(words),
+        },
+    }
+}

@@ -1,0 +1,164 @@
+ghost use Rattle.std.specs.Prelude.{◌≡◌, ◌≤◌, ◌==◌, ℕ, List, [], ◌∷◌, Some, None, IsTrue, MatchOption};
+ghost use Rattle.std.specs.List.{list_any};
+ghost use Rattle.kom_io.specs.Faults.{Rose};
+ghost use Rattle.kom_io.specs.Texts.{AddsPrefix};
+ghost use Rattle.kompics.specs.Top.{IsNoCommand, sim, IsTraced, IsRefused, IsUsage, IsOutput, IsStopped, IsAnswer, IsSaid, IsSimulated, IsSecond, Adds};
+
+use crate::small::machine::simulate;
+use crate::small::record::Record;
+use crate::small::scenario::is_scenario;
+use crate::small::system::{System, read_system};
+use crate::small::text::Text;
+use crate::small::trace::trace_text;
+use kom_io::{Shelf, Sink, TextRead, Words, Written, read_text, write_all_of};
+use std::alloc::Global;
+
+/// The greatest length of a file, in bytes.
+const FILE_LIMIT: usize = 1048576;
+
+/// How a call of the program ended.
+#[derive(Drop)]
+pub struct Ended {
+    /// 0: the trace was written. 1: a file is not small. 2: the words are no command. 5: the shelf
+    /// failed. 6: the sink failed. 7: want of memory.
+    pub status: u8,
+    /// The record of the run, where there was one: with the status 0, and with 6 after a run.
+    pub kept: Option<Record>,
+}
+
+/// Does what the words say: `sim S Z` reads the system S and the scenario Z, simulates them and
+/// writes the trace.
+pub fn quiet_top<S: Shelf, K: Sink>(
+    alloc: Global,
+    words: &Words,
+    shelf: &mut S,
+    out: &mut K,
+) -> Ended
+    ensures status { IsTrue (list_any (λ s. s == result.status) (0 ∷ 1 ∷ 2 ∷ 5 ∷ 6 ∷ 7 ∷ [])) }
+    ensures traced { result.status ≡ 0 → (output : List ℕ) × IsTraced words.now (S.file shelf.old) result.kept output × Adds output (K.written out.old) (K.written out.new) }
+    ensures refused { result.status ≡ 1 → (output : List ℕ) × IsRefused words.now (S.file shelf.old) result.kept output × Adds output (K.written out.old) (K.written out.new) }
+    ensures no_command { result.status ≡ 2 → (output : List ℕ) × IsUsage words.now result.kept output × Adds output (K.written out.old) (K.written out.new) }
+    ensures shelf_fault { result.status ≡ 5 → IsStopped words.now (S.file shelf.old) (S.count shelf.old) (S.count shelf.new) × (result.kept ≡ None) × (K.written out.new ≡ K.written out.old) }
+    ensures sink_fault { result.status ≡ 6 → Rose (K.count out.old) (K.count out.new) × ((output : List ℕ) × IsOutput words.now (S.file shelf.old) result.kept output × AddsPrefix output (K.written out.old) (K.written out.new)) }
+    ensures memory { result.status ≡ 7 → (result.kept ≡ None) × (K.written out.new ≡ K.written out.old) }
+{
+    match answer_to(alloc, words, shelf) {
+        Answer::NoCommand => say(out, b"usage: kompics sim S Z\n", 2),
+        Answer::NoSystem => say(out, b"refused system rule 0 at 1:1\n", 1),
+        Answer::NoScenario => say(out, b"refused scenario rule 0 at 1:1\n", 1),
+        Answer::Trace { text, kept } => {
+            let status = match write_all_of(out, text.as_bytes()) {
+                Written::All => 0,
+                Written::WriteFault => 6,
+            };
+            Ended {
+                status,
+                kept: Some(kept),
+            }
+        }
+        Answer::ShelfFault => without_record(5),
+        Answer::Memory => without_record(7),
+    }
+}
+
+/// Ended without a record.
+fn without_record(status: u8) -> Ended
+    ensures status { result.status ≡ status }
+    ensures kept { result.kept ≡ None }
+{
+    Ended { status, kept: None }
+}
+
+/// Writes a line, and ends with this status unless the sink fails.
+fn say<K: Sink>(out: &mut K, line: &[u8], status: u8) -> Ended
+    ensures kept { result.kept ≡ None }
+    ensures said { IsSaid result.status status line.now (K.written out.old) (K.written out.new) (K.count out.old) (K.count out.new) }
+{
+    match write_all_of(out, line) {
+        Written::All => without_record(status),
+        Written::WriteFault => without_record(6),
+    }
+}
+
+/// What the words come to, before anything is written.
+#[derive(Drop)]
+pub enum Answer {
+    NoCommand,
+    NoSystem,
+    NoScenario,
+    Trace { text: Text, kept: Record },
+    ShelfFault,
+    Memory,
+}
+
+fn answer_to<S: Shelf>(alloc: Global, words: &Words, shelf: &mut S) -> Answer
+    ensures { IsAnswer result words.now (S.file shelf.old) (S.count shelf.old) (S.count shelf.new) }
+{
+    let Some((system_name, scenario_name)) = files_of(words) else {
+        return Answer::NoCommand;
+    };
+    let text = match read_text(alloc, shelf, system_name, FILE_LIMIT) {
+        TextRead::Text(text) => text,
+        TextRead::TooLong => return Answer::NoSystem,
+        TextRead::ReadFault => return Answer::ShelfFault,
+        TextRead::Memory => return Answer::Memory,
+    };
+    match read_system(alloc, text.as_slice()) {
+        Ok(Some(system)) => answer_scenario(alloc, shelf, scenario_name, &system),
+        Ok(None) => Answer::NoSystem,
+        Err(_) => Answer::Memory,
+    }
+}
+
+/// The two files of the command `sim`.
+fn files_of(words: &Words) -> Option<(&str, &str)>
+    ensures { MatchOption result (IsNoCommand words.now) (λ f. words.now ≡ sim f.0.now f.1.now) }
+{
+    if words.len() != 3 {
+        return None;
+    }
+    match (words.at(0), words.at(1), words.at(2)) {
+        (Some(command), Some(system), Some(scenario)) => {
+            if command == "sim" {
+                Some((system, scenario))
+            } else {
+                None
+            }
+        }
+        _ => None,
+    }
+}
+
+/// What the second file comes to.
+fn answer_scenario<S: Shelf>(alloc: Global, shelf: &mut S, name: &str, system: &System) -> Answer
+    ensures answer { IsSecond result (S.file shelf.old name.now) system.now (S.count shelf.old name.now) (S.count shelf.new name.now) }
+    ensures counts { (n : List ℕ) → S.count shelf.old n ≤ S.count shelf.new n }
+{
+    let text = match read_text(alloc, shelf, name, FILE_LIMIT) {
+        TextRead::Text(text) => text,
+        TextRead::TooLong => return Answer::NoScenario,
+        TextRead::ReadFault => return Answer::ShelfFault,
+        TextRead::Memory => return Answer::Memory,
+    };
+    match is_scenario(alloc, text.as_slice(), system) {
+        Ok(true) => run(alloc, system),
+        Ok(false) => Answer::NoScenario,
+        Err(_) => Answer::Memory,
+    }
+}
+
+/// Simulates the system without events.
+fn run(alloc: Global, system: &System) -> Answer
+    ensures { IsSimulated result system.now [] }
+{
+    let Ok(run) = simulate(alloc, system) else {
+        return Answer::Memory;
+    };
+    match trace_text(alloc, system, &run) {
+        Ok(text) => Answer::Trace {
+            text,
+            kept: run.record,
+        },
+        Err(_) => Answer::Memory,
+    }
+}
