@@ -1,5 +1,6 @@
 -- The two sides of a slot.
 use Rattle.std.proofs.Common.{◌≡◌, ◌≢◌, ◌≤◌, ℕ, Bool, true, false, cond, eqb, List, [], Option, Some, None, ⊎_elim, refl, sym, ap, ◌∙◌, subst}
+use Rattle.std.proofs.lemmas.Bool.{eqb-true}
 use Rattle.std.specs.Option.{IsSome, option_map, option_map_or, option_and_then}
 use Rattle.kom_base.specs.declared.numbers.Dir.{Dir}
 use Rattle.kom_base.specs.declared.numbers.Dir.TheVariants.{Plus, Minus}
@@ -101,3 +102,15 @@ same_arrivals s t d rest numbers aim e = ⊎_elim
     ∙ ap (λ e. cond s.living (arrival_of (side s e)) None) (sym this))
     (λ other. ap (λ t. arrival_at t e) rest ∙ other_arrival s d (side t d) e other)
     (same_or_dir d e)
+
+-- a channel is there as before after a change of what waits in one direction
+pub stays_there : (old new : List (ℕ × Slot)) (x : ℕ) (d : Dir) (w : Slot → Waiting) → ((y : ℕ) → slot_of new y ≡ cond (eqb y x) (option_map (λ s. with_side s d (w s)) (slot_of old x)) (slot_of old y)) → (y : ℕ) → is_there new y ≡ is_there old y
+stays_there old new x d w slots y = at (eqb y x) refl
+  where
+    here : (g : Option Slot) → option_map_or (λ (s : Slot). s.living) (option_map (λ s. with_side s d (w s)) g) false ≡ option_map_or (λ (s : Slot). s.living) g false
+    here None = refl
+    here (Some s) = same_living s d (w s)
+
+    at : (b : Bool) → eqb y x ≡ b → is_there new y ≡ is_there old y
+    at true t = ap (λ g. option_map_or (λ (s : Slot). s.living) g false) (slots y ∙ ap (λ b. cond b (option_map (λ s. with_side s d (w s)) (slot_of old x)) (slot_of old y)) t) ∙ here (slot_of old x) ∙ ap (is_there old) (sym (eqb-true y x t))
+    at false t = ap (λ g. option_map_or (λ (s : Slot). s.living) g false) (slots y ∙ ap (λ b. cond b (option_map (λ s. with_side s d (w s)) (slot_of old x)) (slot_of old y)) t)

@@ -60,6 +60,7 @@ impl Queues {
     pub fn reserve(&mut self, x: Chan, d: Dir, n: usize) -> Result<(), AllocError>
         ensures same { (y : ℕ) (e : Dir) → content_of self.new y e ≡ content_of self.old y e }
         ensures not_less { (y : ℕ) (e : Dir) → spare_of self.old y e ≤ spare_of self.new y e }
+        ensures there { (y : ℕ) → is_there self.new y ≡ is_there self.old y }
         ensures room { OnOk result (IsSome (slot_of self.new x)) }
         ensures ok { OnOk result (n ≤ spare_of self.new x d) }
     {
@@ -74,6 +75,7 @@ impl Queues {
         requires { IsSome (slot_of self.old x) }
         ensures same { (y : ℕ) (e : Dir) → content_of self.new y e ≡ content_of self.old y e }
         ensures not_less { (y : ℕ) (e : Dir) → spare_of self.old y e ≤ spare_of self.new y e }
+        ensures there { (y : ℕ) → is_there self.new y ≡ is_there self.old y }
         ensures room { IsSome (slot_of self.new x) }
         ensures ok { OnOk result (n ≤ spare_of self.new x d) }
     {
@@ -131,7 +133,8 @@ impl Queues {
     pub fn enter(&mut self, x: Chan, d: Dir, no: EntryNo)
         requires there { is_there self.old x ≡ true }
         requires spare { 0 < spare_of self.old x d }
-        ensures { (y : ℕ) → slot_of self.new y ≡ (if y == x then option_map (λ s. with_side s d (pushed (side s d) no)) (slot_of self.old x) else slot_of self.old y) }
+        ensures there { (y : ℕ) → is_there self.new y ≡ is_there self.old y }
+        ensures slots { (y : ℕ) → slot_of self.new y ≡ (if y == x then option_map (λ s. with_side s d (pushed (side s d) no)) (slot_of self.old x) else slot_of self.old y) }
     {
         let mut slot = lend(&mut self.slots, x, self.alloc);
         let old = slot.arrival(d);
@@ -146,7 +149,8 @@ impl Queues {
     pub fn take(&mut self, x: Chan, d: Dir) -> Option<EntryNo>
         requires { is_there self.old x ≡ true }
         ensures number { result ≡ option_and_then (λ w. first w.numbers) (queue_of self.old x d) }
-        ensures rest { (y : ℕ) → slot_of self.new y ≡ (if y == x then option_map (λ s. with_side s d (popped (side s d))) (slot_of self.old x) else slot_of self.old y) }
+        ensures there { (y : ℕ) → is_there self.new y ≡ is_there self.old y }
+        ensures slots { (y : ℕ) → slot_of self.new y ≡ (if y == x then option_map (λ s. with_side s d (popped (side s d))) (slot_of self.old x) else slot_of self.old y) }
     {
         let mut slot = lend(&mut self.slots, x, self.alloc);
         let old = slot.arrival(d);
@@ -160,7 +164,8 @@ impl Queues {
     /// Says for which component a direction waits; `None` where for nobody. It takes no memory.
     pub fn aim(&mut self, x: Chan, d: Dir, at: Option<Comp>)
         requires { is_there self.old x ≡ true }
-        ensures { (y : ℕ) → slot_of self.new y ≡ (if y == x then option_map (λ s. with_side s d (aimed (side s d) at)) (slot_of self.old x) else slot_of self.old y) }
+        ensures there { (y : ℕ) → is_there self.new y ≡ is_there self.old y }
+        ensures slots { (y : ℕ) → slot_of self.new y ≡ (if y == x then option_map (λ s. with_side s d (aimed (side s d) at)) (slot_of self.old x) else slot_of self.old y) }
     {
         let mut slot = lend(&mut self.slots, x, self.alloc);
         let old = slot.arrival(d);

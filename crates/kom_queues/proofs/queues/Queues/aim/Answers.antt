@@ -1,6 +1,6 @@
 use Rattle.kom_queues.specs.Slots.{side, with_side, aimed}
 use Rattle.kom_queues.proofs.Fronting.{lent, turned, there_is, not_there}
-use Rattle.kom_queues.proofs.Sides.{other_arrival, slot_there, each_is}
+use Rattle.kom_queues.proofs.Sides.{stays_there, other_arrival, slot_there, each_is}
 use Rattle.kom_queues.proofs.queues.Queues.aim.Goals as goal
 
 pub lend-slot-requires : goal.lend-slot-requires
@@ -22,8 +22,11 @@ invariant_of-self c =
     turned i.slots.0 c.restore.new.slots.0 i.fronts.0 c.refresh.new.fronts.0 c.args.x c.lend-slot.result (with_side c.lend-slot.result c.args.d (aimed (side c.lend-slot.result c.args.d) c.args.at)) c.args.d c.self.invariant c.lend-slot.ensures.was sets
     (other_arrival c.lend-slot.result c.args.d (aimed (side c.lend-slot.result c.args.d) c.args.at)) (rw (c.arrival-old.ensures, c.arrival-new.ensures, c.set_aim.ensures) at c.refresh.ensures)
 
-pub returns : goal.returns
-returns c = λ y.
+pub returns-clause-slots : goal.returns-clause-slots
+returns-clause-slots c = λ y.
     let i = c.self.inside in
     let sets = lent i.slots.0 c.lend-slot.new.slots.0 c.restore.new.slots.0 c.args.x (with_side c.lend-slot.result c.args.d (aimed (side c.lend-slot.result c.args.d) c.args.at)) c.lend-slot.ensures.others (rw c.set_aim.ensures at c.restore.ensures) in
     rw (← c.self.view_is) (each_is i.slots.0 c.restore.new.slots.0 c.args.x (λ s. with_side s c.args.d (aimed (side s c.args.d) c.args.at)) c.lend-slot.result c.lend-slot.ensures.was sets y)
+
+pub returns-clause-there : goal.returns-clause-there
+returns-clause-there c = stays_there c.args.self.now c.restore.new.slots.0 c.args.x c.args.d (λ s. aimed (side s c.args.d) c.args.at) (returns-clause-slots c)

@@ -1,7 +1,7 @@
 use Rattle.std.proofs.Common.{ap, arith}
 use Rattle.kom_queues.specs.Slots.{spare_of, side, with_side, pushed}
 use Rattle.kom_queues.proofs.Fronting.{lent, turned, there_is, not_there}
-use Rattle.kom_queues.proofs.Sides.{other_arrival, slot_there, spare_is, each_is}
+use Rattle.kom_queues.proofs.Sides.{stays_there, other_arrival, slot_there, spare_is, each_is}
 use Rattle.kom_queues.proofs.queues.Queues.enter.Goals as goal
 
 pub lend-slot-requires : goal.lend-slot-requires
@@ -28,8 +28,11 @@ invariant_of-self c =
     turned i.slots.0 c.restore.new.slots.0 i.fronts.0 c.refresh.new.fronts.0 c.args.x c.lend-slot.result (with_side c.lend-slot.result c.args.d (pushed (side c.lend-slot.result c.args.d) c.args.no)) c.args.d c.self.invariant c.lend-slot.ensures.was sets
     (other_arrival c.lend-slot.result c.args.d (pushed (side c.lend-slot.result c.args.d) c.args.no)) (rw (c.arrival-old.ensures, c.arrival-new.ensures, c.push.ensures) at c.refresh.ensures)
 
-pub returns : goal.returns
-returns c = λ y.
+pub returns-clause-slots : goal.returns-clause-slots
+returns-clause-slots c = λ y.
     let i = c.self.inside in
     let sets = lent i.slots.0 c.lend-slot.new.slots.0 c.restore.new.slots.0 c.args.x (with_side c.lend-slot.result c.args.d (pushed (side c.lend-slot.result c.args.d) c.args.no)) c.lend-slot.ensures.others (rw c.push.ensures at c.restore.ensures) in
     rw (← c.self.view_is) (each_is i.slots.0 c.restore.new.slots.0 c.args.x (λ s. with_side s c.args.d (pushed (side s c.args.d) c.args.no)) c.lend-slot.result c.lend-slot.ensures.was sets y)
+
+pub returns-clause-there : goal.returns-clause-there
+returns-clause-there c = stays_there c.args.self.now c.restore.new.slots.0 c.args.x c.args.d (λ s. pushed (side s c.args.d) c.args.no) (returns-clause-slots c)

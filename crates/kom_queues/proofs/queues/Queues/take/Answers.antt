@@ -4,7 +4,7 @@ use Rattle.kom_base.specs.Lists.{first}
 use Rattle.kom_queues.specs.Slots.{is_there, queue_of, side, with_side}
 use Rattle.kom_queues.specs.Waiting.{Waiting, popped}
 use Rattle.kom_queues.proofs.Fronting.{lent, turned, there_is, not_there}
-use Rattle.kom_queues.proofs.Sides.{other_arrival, slot_there, queue_is, each_is}
+use Rattle.kom_queues.proofs.Sides.{stays_there, other_arrival, slot_there, queue_is, each_is}
 use Rattle.kom_queues.proofs.queues.Queues.take.Goals as goal
 
 pub lend-slot-requires : goal.lend-slot-requires
@@ -31,8 +31,11 @@ invariant_of-self c =
     turned i.slots.0 c.restore.new.slots.0 i.fronts.0 c.refresh.new.fronts.0 c.args.x c.lend-slot.result (with_side c.lend-slot.result c.args.d (popped (side c.lend-slot.result c.args.d))) c.args.d c.self.invariant c.lend-slot.ensures.was sets
     (other_arrival c.lend-slot.result c.args.d (popped (side c.lend-slot.result c.args.d))) (rw (c.arrival-old.ensures, c.arrival-new.ensures, c.pop-taken.ensures.rest) at c.refresh.ensures)
 
-pub returns-clause-rest : goal.returns-clause-rest
-returns-clause-rest c = λ y.
+pub returns-clause-slots : goal.returns-clause-slots
+returns-clause-slots c = λ y.
     let i = c.self.inside in
     let sets = lent i.slots.0 c.lend-slot.new.slots.0 c.restore.new.slots.0 c.args.x (with_side c.lend-slot.result c.args.d (popped (side c.lend-slot.result c.args.d))) c.lend-slot.ensures.others (rw c.pop-taken.ensures.rest at c.restore.ensures) in
     rw (← c.self.view_is) (each_is i.slots.0 c.restore.new.slots.0 c.args.x (λ s. with_side s c.args.d (popped (side s c.args.d))) c.lend-slot.result c.lend-slot.ensures.was sets y)
+
+pub returns-clause-there : goal.returns-clause-there
+returns-clause-there c = stays_there c.args.self.now c.restore.new.slots.0 c.args.x c.args.d (λ s. popped (side s c.args.d)) (returns-clause-slots c)
