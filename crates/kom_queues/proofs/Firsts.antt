@@ -92,7 +92,7 @@ plugs_arrives m k a e p = living p.slot.living refl
             number (Some n) h =
                 let b : Arrival = record { comp = c; no = n } in
                 let same : Some b ≡ Some a =
-                    sym (ap (option_and_then {U = Arrival} (λ c. option_map {U = Arrival} (λ n. record { comp = c; no = n }) (first (side p.slot k.dir).numbers))) f ∙ ap (option_map {U = Arrival} (λ n. record { comp = c; no = n })) h) ∙ all in
+                sym (ap (option_and_then {U = Arrival} (λ c. option_map {U = Arrival} (λ n. record { comp = c; no = n }) (first (side p.slot k.dir).numbers))) f ∙ ap (option_map {U = Arrival} (λ n. record { comp = c; no = n })) h) ∙ all in
                 record {
                   queue = side p.slot k.dir;
                   is = ap (option_and_then (λ (s : Slot). here s k.dir)) p.is ∙ ap (λ b. cond b (Some (side p.slot k.dir)) None) t;
@@ -128,9 +128,10 @@ found_first m fronts sound c k has from least = at k.at refl
         comp : (b : Bool) → eqb a.comp c ≡ b → IsFirstAt m c (waits_for k c)
         comp true t =
             let one : a.comp ≡ c = eqb-true a.comp c t in
-            subst (IsFirstAt m c) (sym (seen true t))
-            (subst (λ c. Arrives m c k.chan k.dir a.no) one (plugs_arrives m k a e (sound.plugged k has)),
-            λ x d n p. sym (ap is_lt (split x d n ∙ ap (λ o. ordering_then (ordering_then o (number_cmp n a.no)) (ordering_then (nat_cmp x k.chan) (nat_cmp (dir_index d) (dir_index k.dir)))) (ap (nat_cmp c) one ∙ tied_itself nat_cmp_total c))) ∙ past x d n p)
+            subst (IsFirstAt m c) (sym (seen true t)) (
+              subst (λ c. Arrives m c k.chan k.dir a.no) one (plugs_arrives m k a e (sound.plugged k has)),
+              λ x d n p. sym (ap is_lt (split x d n ∙ ap (λ o. ordering_then (ordering_then o (number_cmp n a.no)) (ordering_then (nat_cmp x k.chan) (nat_cmp (dir_index d) (dir_index k.dir)))) (ap (nat_cmp c) one ∙ tied_itself nat_cmp_total c))) ∙ past x d n p,
+            )
         comp false t = subst (IsFirstAt m c) (sym (seen false t)) (λ x d n p. clash x d n (past x d n p) (nat_cmp c a.comp) refl)
           where
             clash : (x : ℕ) (d : Dir) (n : EntryNo) → is_lt (front_cmp (front_here c x d n) k) ≡ false → (o : Ordering) → nat_cmp c a.comp ≡ o → ⊥
