@@ -6,6 +6,8 @@ mod front;
 mod queue;
 mod queues;
 mod slot;
+#[cfg(test)]
+mod tests;
 
 pub use front::{Arrival, Front};
 pub use queue::Queue;
