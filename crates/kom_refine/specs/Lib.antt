@@ -1,0 +1,4 @@
+pub mod Laws
+pub mod Points
+pub mod States
+pub mod Steps
