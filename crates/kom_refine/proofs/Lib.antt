@@ -3,6 +3,7 @@ pub mod Creating
 pub mod Destroying
 pub mod Ending
 pub mod Entries
+pub mod Firsts
 pub mod Fresh
 pub mod Kept
 pub mod Laws

@@ -1,5 +1,6 @@
 -- The laws by which the state of a run follows its record, entry by entry.
-use Rattle.std.specs.Prelude.{◌≡◌, ◌<◌, ℕ, List, ◌∷◌, length, map, Option, Some}
+use Rattle.std.specs.Prelude.{◌≡◌, ◌<◌, ℕ, List, ◌∷◌, length, map, Option, Some, None}
+use Rattle.kom_base.specs.Lists.{first}
 use Rattle.kom_lang.specs.Declarations.{Declarations}
 use Rattle.kom_lang.specs.declared.body.Body.{Body}
 use Rattle.kom_lang.specs.declared.body.Effect.{Effect}
@@ -11,9 +12,10 @@ use Rattle.kom_record.specs.declared.entry.Entry.TheVariants.{Took, Did, Moved}
 use Rattle.kom_record.specs.Entries.{History, acts, item_at}
 use Rattle.kom_record.specs.Instances.{born}
 use Rattle.kom_record.specs.Queues.{entering}
-use Rattle.kom_record.specs.Controls.{putting, put_by_item}
+use Rattle.kom_record.specs.Controls.{control_waiting, putting, put_by_item}
 use Rattle.kom_record.specs.Bodies.{catches}
 use Rattle.kom_record.specs.Legal.{IsLegal}
+use Rattle.kom_refine.specs.Firsts.{Front, IsFirst, TakesNext}
 use Rattle.kom_refine.specs.States.{State}
 use Rattle.kom_refine.specs.Points.{Point, acts_at, act_of, start_of, with_act, before_effects_of, StandsAt, IsFresh, AreByCreated}
 use Rattle.kom_refine.specs.Steps.{IsTaken, ArePut, HaveCome, IsEnded, IsEffect, AreEffects}
@@ -61,3 +63,9 @@ DoneFollows = (S : Declarations) (Z : Plan) (P : History) (w c took : ℕ) (item
     → AreEffects S (before_effects_of S P w c took body effects to places) c item effects come acted
     → IsEnded (catches S) c (outcome.Done body effects) acted n
     → StandsAt S (start_of P) m → StandsAt S (start_of (Did w c took (outcome.Done body effects) to places ∷ P)) n
+
+-- a component for which no control item waits takes the event at the first of the fronts for it, and nothing
+-- where there is none
+abbrev pub NextIsFirst : Type 0
+NextIsFirst = (S : Declarations) (P : History) (m : State) (c : ℕ) (f : Option Front)
+    → StandsAt S (start_of P) m → IsFirst m c f → first (control_waiting S P c) ≡ None → TakesNext S P c f

@@ -1,3 +1,4 @@
+pub mod Firsts
 pub mod Laws
 pub mod Points
 pub mod States

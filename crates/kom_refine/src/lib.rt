@@ -2,7 +2,7 @@
 //! by effect; there is no code.
 #![tactic(auto)]
 
-ghost use Rattle.kom_refine.specs.Laws.{TookFollows, MovedFollows, VoidFollows, FaultFollows, DoneFollows, EffectFollows, EffectsStayFresh};
+ghost use Rattle.kom_refine.specs.Laws.{NextIsFirst, TookFollows, MovedFollows, VoidFollows, FaultFollows, DoneFollows, EffectFollows, EffectsStayFresh};
 
 /// A Took takes the first item out of where it waits, and the state goes on from the record to that
 /// with the Took.
@@ -40,4 +40,10 @@ pub fn effect_follows()
 /// After an effect, nothing has come to what is created later.
 pub fn effects_stay_fresh()
     ensures { EffectsStayFresh }
+{}
+
+/// A component for which no control item waits takes the event at the first of the fronts for it;
+/// where there is none, nothing.
+pub fn next_is_first()
+    ensures { NextIsFirst }
 {}
