@@ -1,0 +1,14 @@
+pub mod Channels
+pub mod Creating
+pub mod Destroying
+pub mod Ending
+pub mod Entries
+pub mod Firsts
+pub mod Fresh
+pub mod Kept
+pub mod Laws
+pub mod Points
+pub mod Putting
+pub mod Relinking
+pub mod Taking
+pub mod Unborn

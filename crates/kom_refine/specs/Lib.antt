@@ -1,0 +1,5 @@
+pub mod Firsts
+pub mod Laws
+pub mod Points
+pub mod States
+pub mod Steps
