@@ -1,11 +1,12 @@
 -- Lists of entries whose keys rise, around one of them.
-use Rattle.std.proofs.Common.{◌≡◌, ◌≢◌, Bool, true, false, cond, not, List, [], ◌∷◌, ◌++◌, map, Option, Some, None, Ordering, suc, ◌+◌, length, arith, refl, sym, ap, ◌∙◌, subst, append_assoc}
+use Rattle.std.proofs.Common.{◌≡◌, ◌≢◌, Bool, true, false, cond, not, ◌&&◌, List, [], ◌∷◌, ◌++◌, map, Option, Some, None, Ordering, suc, ◌+◌, ◌≤◌, length, arith, refl, sym, ap, ◌∙◌, subst, append_assoc}
+use Rattle.std.proofs.lemmas.List.{append-nil}
 use Rattle.std.specs.List.{filter}
 use Rattle.std.specs.Ordering.{is_lt, is_eq, ordering_reverse}
 use Rattle.std.specs.Option.{IsSome, option_map}
 use Rattle.std.specs.declared.cmp.Ordering.TheVariants.{Less, Equal, Greater}
 use Rattle.std.specs.Cmp.{IsTotalOrder, tied_itself}
-use Rattle.kom_index.specs.Entries.{AllKeys, Rises, has_key, value_of, without, revalued, inserted, first_from, IsFirstFrom}
+use Rattle.kom_index.specs.Entries.{AllKeys, Rises, has_key, value_of, without, revalued, inserted, first_from, IsFirstFrom, is_between, between}
 
 pub all_map : {K V : Type 0} (P Q : K → Type 0) → ((k : K) → P k → Q k) → (es : List (K × V)) → AllKeys P es → AllKeys Q es
 all_map P Q f [] h = tt
@@ -468,3 +469,37 @@ module _ {K V : Type 0} (R : K → K → Ordering) (o : IsTotalOrder R) where
           at : (q : K) → IsSome (value_of R q (e ∷ es)) → (b : Bool) → has_key R q e ≡ b → is_lt (R q e.0) ≡ false
           at q some true k = ap is_lt (equal_of _ k)
           at q some false k = ap is_lt (greater o e.0 q (above_present e.0 es h.0 q (subst IsSome (ap (λ b. cond b (Some e.1) (value_of R q es)) k) some)))
+
+  -- ---- what lies between two bounds
+
+  -- all below the first bound
+  between_below : (low high : K) (l m : List (K × V)) → AllKeys (λ y. R y low ≡ Less) l → between R low high (l ++ m) ≡ between R low high m
+  between_below low high [] m h = refl
+  between_below low high (x ∷ l) m h = ap (λ b. cond (not b && not (is_lt (R high x.0))) (x ∷ between R low high (l ++ m)) (between R low high (l ++ m))) (ap is_lt h.0) ∙ between_below low high l m h.1
+
+  -- all above the second
+  between_above : (low high : K) (es : List (K × V)) → AllKeys (λ y. R high y ≡ Less) es → between R low high es ≡ []
+  between_above low high [] h = refl
+  between_above low high (x ∷ es) h = ap (λ b. cond (not (is_lt (R x.0 low)) && not b) (x ∷ between R low high es) (between R low high es)) (ap is_lt h.0)
+      ∙ elim (is_lt (R x.0 low)) as (λ b. cond (not b && false) (x ∷ between R low high es) (between R low high es) ≡ []) [ true ↦ between_above low high es h.1 | false ↦ between_above low high es h.1 ]
+
+  pub between_right : (low high : K) (l : List (K × V)) (e : K × V) (r : List (K × V)) → Rises R (l ++ e ∷ r) → R e.0 low ≡ Less → between R low high (l ++ e ∷ r) ≡ between R low high r
+  between_right low high l e r h less = between_below low high l (e ∷ r) (all_map _ _ (λ y up. o.trans y e.0 low up less) l (before R l e r h))
+      ∙ ap (λ b. cond (not b && not (is_lt (R high e.0))) (e ∷ between R low high r) (between R low high r)) (ap is_lt less)
+
+  pub between_left : (low high : K) (l : List (K × V)) (e : K × V) (r : List (K × V)) → Rises R (l ++ e ∷ r) → R high e.0 ≡ Less → between R low high (l ++ e ∷ r) ≡ between R low high l
+  between_left low high l e r h less = filter-append (is_between R low high) l (e ∷ r)
+      ∙ ap (λ m. between R low high l ++ m) (between_above low high (e ∷ r) (less, all_map _ _ (λ y up. o.trans high e.0 y less up) r (after R l e r h)))
+      ∙ append-nil (between R low high l)
+
+  pub between_both : (low high : K) (l : List (K × V)) (e : K × V) (r : List (K × V)) → is_lt (R e.0 low) ≡ false → is_lt (R high e.0) ≡ false → between R low high (l ++ e ∷ r) ≡ between R low high l ++ e ∷ between R low high r
+  between_both low high l e r past below = filter-append (is_between R low high) l (e ∷ r)
+      ∙ ap (λ b. between R low high l ++ cond (not b && not (is_lt (R high e.0))) (e ∷ between R low high r) (between R low high r)) past
+      ∙ ap (λ b. between R low high l ++ cond (not b) (e ∷ between R low high r) (between R low high r)) below
+
+pub between_fewer : {K V : Type 0} (R : K → K → Ordering) (low high : K) (es : List (K × V)) → length (between R low high es) ≤ length es
+between_fewer R low high [] = omega arith
+between_fewer R low high (e ∷ es) = elim (is_between R low high e) as (λ b. length (cond b (e ∷ between R low high es) (between R low high es)) ≤ suc (length es)) [
+  | true ↦ omega (arith, between_fewer R low high es)
+  | false ↦ omega (arith, between_fewer R low high es)
+]

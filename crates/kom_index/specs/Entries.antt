@@ -1,5 +1,5 @@
 -- Lists of entries, each a key and a value, and the order of their keys.
-use Rattle.std.specs.Prelude.{◌≡◌, Bool, true, false, not, List, [], ◌∷◌, filter, find, map, if◌then◌else◌, Option, Some, None}
+use Rattle.std.specs.Prelude.{◌≡◌, Bool, true, false, not, ◌&&◌, List, [], ◌∷◌, filter, find, map, if◌then◌else◌, Option, Some, None}
 use Rattle.std.specs.Ordering.{is_lt, is_eq}
 use Rattle.std.specs.Option.{IsSome}
 use Rattle.std.specs.declared.cmp.Ordering.{Ordering}
@@ -46,3 +46,11 @@ module _ {K V : Type 0} (R : K → K → Ordering) where
   abbrev pub IsFirstFrom : K → List (K × V) → Option K → Type 0
   IsFirstFrom low es None = (q : K) → IsSome (value_of q es) → is_lt (R q low) ≡ true
   IsFirstFrom low es (Some k) = IsSome (value_of k es) × (is_lt (R k low) ≡ false) × ((q : K) → IsSome (value_of q es) → is_lt (R q low) ≡ false → is_lt (R q k) ≡ false)
+
+  -- the key lies between two bounds, or is one of them
+  abbrev pub is_between : K → K → K × V → Bool
+  is_between low high e = not (is_lt (R e.0 low)) && not (is_lt (R high e.0))
+
+  -- the entries whose keys lie between two bounds, or are one of them
+  abbrev pub between : K → K → List (K × V) → List (K × V)
+  between low high es = filter (is_between low high) es

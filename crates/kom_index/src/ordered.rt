@@ -1,7 +1,7 @@
-ghost use Rattle.std.specs.Prelude.{◌≡◌, ◌+◌, ◌-◌, ◌<◌, ◌≤◌, max, [], ◌∷◌, ◌++◌, Some, None, IsSome, OnOk, OnErr, length, if◌then◌else◌, vec_len, vec_capacity};
+ghost use Rattle.std.specs.Prelude.{◌≡◌, ◌+◌, ◌-◌, ◌<◌, ◌≤◌, max, [], ◌∷◌, ◌++◌, Some, None, IsSome, OnOk, OnErr, IfOk, length, map, if◌then◌else◌, vec_len, vec_capacity};
 ghost use Rattle.std.specs.Ordering.{is_eq};
 ghost use Rattle.std.specs.Option.{option_copied, option_map};
-ghost use Rattle.kom_index.specs.Entries.{Rises, value_of, without, revalued, inserted, first_from, IsFirstFrom};
+ghost use Rattle.kom_index.specs.Entries.{Rises, value_of, without, revalued, inserted, first_from, IsFirstFrom, between};
 ghost use Rattle.kom_index.specs.Stock.{entries, spare};
 
 use crate::tree::{Freed, Tree};
@@ -63,6 +63,15 @@ impl<K: Ord, V> Ordered<K, V> {
         self.tree.first_from(low)
     }
 
+    /// How many keys lie between two bounds, which are among them. It costs as much as it counts and
+    /// the logarithm of the rest.
+    pub fn count_between(&self, low: &K, high: &K) -> usize
+        ensures { result ≡ length (between K.cmp low.now high.now (entries self.now)) }
+    {
+        let _len = self.len;
+        self.tree.count_between(low, high, 0)
+    }
+
     /// Exchanges the value at a key that is there for another.
     pub fn swap(&mut self, key: &K, value: &mut V)
         requires { IsSome (value_of K.cmp key.now (entries self.old)) }
@@ -73,6 +82,18 @@ impl<K: Ord, V> Ordered<K, V> {
         ensures spare { spare self.new ≡ spare self.old }
     {
         self.tree.swap(key, value);
+    }
+}
+
+impl<K: Ord + Copy, V> Ordered<K, V> {
+    /// The keys between two bounds, which are among them, in order. It costs as much as it lists and
+    /// the logarithm of the rest.
+    pub fn keys_between(&self, alloc: Global, low: &K, high: &K) -> Result<Vec<K>, AllocError>
+        ensures { IfOk result (λ v. v.items ≡ map (λ e. e.0) (between K.cmp low.now high.now (entries self.now))) }
+    {
+        let mut keys = Vec::new(alloc);
+        self.tree.keys_between(low, high, &mut keys)?;
+        Ok(keys)
     }
 }
 
@@ -130,6 +151,7 @@ impl<K: Ord + Drop, V: Drop> Ordered<K, V> {
         ensures values { (q : K) → value_of K.cmp q (entries self.new) ≡ (if is_eq (K.cmp q key.now) then None else value_of K.cmp q (entries self.old)) }
         ensures rises { Rises K.cmp (entries self.new) }
         ensures spare { spare self.new ≡ spare self.old + 1 }
+        ensures len { length (entries self.new) + 1 ≡ length (entries self.old) }
     {
         let Freed {
             key: _key,
@@ -179,6 +201,9 @@ mod tests {
         map.insert(3, 30);
         assert_eq!(rt; map.first_from(&0).copied(), Some(3));
         assert_eq!(rt; map.first_from(&4).copied(), Some(5));
+        assert_eq!(rt; map.count_between(&3, &4), 1);
+        let keys = map.keys_between(rt.alloc(), &0, &9)?;
+        assert_eq!(rt; keys.as_slice(), [3, 5].as_slice());
         let mut value = 31;
         map.swap(&3, &mut value);
         assert_eq!(rt; map.get(&3).copied(), Some(31));

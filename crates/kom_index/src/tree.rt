@@ -1,8 +1,9 @@
-ghost use Rattle.std.specs.Prelude.{◌≡◌, [], ◌∷◌, ◌++◌, Some, None, IsSome, IfSome, IfNone};
+ghost use Rattle.std.specs.Prelude.{◌≡◌, ◌+◌, ◌<◌, ◌^◌, [], ◌∷◌, ◌++◌, Some, None, IsSome, IfSome, IfNone, OnOk, length, map};
 ghost use Rattle.std.specs.Option.{option_copied, option_map};
-ghost use Rattle.kom_index.specs.Entries.{Rises, value_of, without, revalued, inserted, first_from};
+ghost use Rattle.kom_index.specs.Entries.{Rises, value_of, without, revalued, inserted, first_from, between};
 ghost use Rattle.kom_index.specs.Shape.{entries_of};
 
+use std::alloc::AllocError;
 use std::cmp::Ordering;
 use std::marker::Model;
 use std::mem;
@@ -115,6 +116,27 @@ impl<K: Ord, V> Tree<K, V> {
         }
     }
 
+    /// A number and how many keys lie between two bounds, which are among them.
+    pub fn count_between(&self, low: &K, high: &K, so_far: usize) -> usize
+        requires { so_far + length self.now < 2 ^ 64 }
+        ensures count { result ≡ so_far + length (between K.cmp low.now high.now self.now) }
+        ensures rises { Rises K.cmp self.now }
+    {
+        match &self.node {
+            Node::Leaf => so_far,
+            Node::Fork(l, k, _, _, r) => {
+                if k.cmp(low).is_lt() {
+                    return r.count_between(low, high, so_far);
+                }
+                let before = l.count_between(low, high, so_far);
+                if high.cmp(k).is_lt() {
+                    return before;
+                }
+                r.count_between(low, high, before + 1)
+            }
+        }
+    }
+
     /// Exchanges the value at a key for another.
     pub fn swap(&mut self, key: &K, value: &mut V)
         requires { IsSome (value_of K.cmp key.now self.old) }
@@ -129,6 +151,29 @@ impl<K: Ord, V> Tree<K, V> {
                 Ordering::Equal => mem::swap(v, value),
                 Ordering::Greater => r.swap(key, value),
             },
+        }
+    }
+}
+
+impl<K: Ord + Copy, V> Tree<K, V> {
+    /// Adds the keys between two bounds, which are among them, at the end of a list.
+    pub fn keys_between(&self, low: &K, high: &K, keys: &mut Vec<K>) -> Result<(), AllocError>
+        ensures ok { OnOk result (keys.new.items ≡ keys.old.items ++ map (λ e. e.0) (between K.cmp low.now high.now self.now)) }
+        ensures rises { Rises K.cmp self.now }
+    {
+        match &self.node {
+            Node::Leaf => Ok(()),
+            Node::Fork(l, k, _, _, r) => {
+                if k.cmp(low).is_lt() {
+                    return r.keys_between(low, high, keys);
+                }
+                l.keys_between(low, high, keys)?;
+                if high.cmp(k).is_lt() {
+                    return Ok(());
+                }
+                keys.push(*k)?;
+                r.keys_between(low, high, keys)
+            }
         }
     }
 }

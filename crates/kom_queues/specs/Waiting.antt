@@ -1,5 +1,5 @@
 -- What waits in one direction.
-use Rattle.std.specs.Prelude.{ℕ, ◌+◌, List, [], ◌∷◌, Option, None}
+use Rattle.std.specs.Prelude.{ℕ, List, [], ◌∷◌, Option, None}
 use Rattle.std.specs.Option.{option_and_then, option_map}
 use Rattle.kom_base.specs.Lists.{first}
 use Rattle.kom_base.specs.declared.numbers.EntryNo.{EntryNo}
@@ -20,7 +20,7 @@ popped w = left w.numbers
   where
     left : List EntryNo → Waiting
     left [] = w
-    left (n ∷ ns) = record w { numbers = ns; spare = w.spare + 1 }
+    left (n ∷ ns) = record w { numbers = ns }
 
 -- the number at the front and the component that it waits for
 abbrev pub arrival_of : Waiting → Option Arrival

@@ -4,26 +4,24 @@ ghost use Rattle.kom_queues.specs.Waiting.{Waiting, popped, arrival_of};
 
 use crate::front::Arrival;
 use kom_base::{Comp, EntryNo};
+use kom_index::Fifo;
 use std::alloc::{AllocError, Global};
-use std::collections::VecDeque;
 use std::marker::Model;
 
 /// The numbers that wait in one direction, the first at the front, and the component that they
-/// wait for. What was taken is room again.
+/// wait for. The memory of what was taken comes back in time.
 #[derive(Drop)]
 pub struct Queue {
-    numbers: VecDeque<EntryNo>,
+    numbers: Fifo<EntryNo>,
     aim: Option<Comp>,
 }
 
 impl Model for Queue {
-    ghost use Rattle.std.specs.Prelude.{◌-◌};
-    ghost use Rattle.std.specs.VecDeque.{deque_len, deque_capacity};
     ghost use Rattle.kom_queues.specs.Waiting.{Waiting};
 
     ghost Value = { Waiting };
 
-    ghost view = { λ q. record { numbers = q.numbers.items; aim = q.aim; spare = deque_capacity q.numbers - deque_len q.numbers } };
+    ghost view = { λ q. record { numbers = q.numbers.0; aim = q.aim; spare = q.numbers.1 } };
 }
 
 impl Queue {
@@ -33,7 +31,7 @@ impl Queue {
         ensures aim { result.aim ≡ None }
     {
         Queue {
-            numbers: VecDeque::new(alloc),
+            numbers: Fifo::new(alloc),
             aim: None,
         }
     }
@@ -60,7 +58,7 @@ impl Queue {
         requires { 0 < self.old.spare }
         ensures { self.new ≡ record self.old { numbers = self.old.numbers ++ no ∷ []; spare = self.old.spare - 1 } }
     {
-        self.numbers.push_back_reserved(no);
+        self.numbers.push(no);
     }
 
     /// Takes the number at the front, if there is one.
@@ -68,7 +66,7 @@ impl Queue {
         ensures number { result ≡ first self.old.numbers }
         ensures rest { self.new ≡ popped self.old }
     {
-        self.numbers.pop_front()
+        self.numbers.pop()
     }
 
     /// Aims the queue at another component, or nowhere.

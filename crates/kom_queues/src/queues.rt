@@ -144,8 +144,8 @@ impl Queues {
         refresh(&mut self.fronts, x, d, &old, &new);
     }
 
-    /// Takes the number at the front of a direction; `None` exactly where none waits. What it took
-    /// is room again.
+    /// Takes the number at the front of a direction; `None` exactly where none waits. The room that
+    /// was reserved stays, and the memory of what was taken comes back in time.
     pub fn take(&mut self, x: Chan, d: Dir) -> Option<EntryNo>
         requires { is_there self.old x ≡ true }
         ensures number { result ≡ option_and_then (λ w. first w.numbers) (queue_of self.old x d) }

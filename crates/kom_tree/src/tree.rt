@@ -1,5 +1,5 @@
 ghost use Rattle.std.specs.Prelude.{◌≡◌, ℕ, ◌+◌, ◌-◌, ◌<◌, ◌≤◌, ◌↔◌, ◌&&◌, not, if◌then◌else◌, true, [], length, map, IsTrue, IsSome, IsNone, IfSome, OnOk, Some, None};
-ghost use Rattle.kom_tree.specs.Forest.{parent_of, is_alive, is_slot, occupant, hangs_in, MayHang, with_child, felled};
+ghost use Rattle.kom_tree.specs.Forest.{parent_of, line_of, line_under, is_alive, is_slot, occupant, hangs_in, MayHang, with_child, felled};
 
 use crate::family::{Family, Links, Origin};
 use crate::fell::{end_below, end_one, hang, is_living, parent_in, put, sitter, unlink};
@@ -83,6 +83,7 @@ impl Tree {
     pub fn parent(&self, c: Comp) -> Option<(Comp, u8)>
         requires { c < length self.now.instances }
         ensures value { result ≡ parent_of self.now.instances c }
+        ensures line { line_of self.now.instances c ≡ line_under self.now.instances result }
         ensures root { IsNone result ↔ (c ≡ 0) }
         ensures older { IfSome result (λ q. q.0 < c) }
         ensures living { is_alive self.now.instances c ≡ true → IfSome result (λ q. is_alive self.now.instances q.0 ≡ true) }

@@ -22,3 +22,8 @@ returns-clause-values g c = λ q.
 
 pub returns-clause-rises : goal.returns-clause-rises
 returns-clause-rises g c = rw c.remove-key.ensures.rest (rises_without g.K.Ord.cmp g.met.K.Ord.total c.args.key.now c.self.inside.tree c.remove-key.ensures.rises)
+
+pub returns-clause-len : goal.returns-clause-len
+returns-clause-len g c =
+    let shorter = length-without g.K.Ord.cmp g.met.K.Ord.total c.args.key.now c.self.inside.tree c.remove-key.ensures.rises (subst IsSome (sym c.remove-key.ensures.value) refl) in
+    omega (arith, shorter, ap length c.remove-key.ensures.rest, ap (λ d. length (entries d)) c.self.view_is)

@@ -1,6 +1,6 @@
 use Rattle.std.proofs.Common.{length, sym, ap, ◌∙◌, arith}
-use Rattle.kom_tree.specs.Forest.{Forest, parent_of}
-use Rattle.kom_tree.proofs.Views.{parent_is, root_is, parent_older, parent_living, length-all}
+use Rattle.kom_tree.specs.Forest.{Forest, parent_of, line_of, line_under}
+use Rattle.kom_tree.proofs.Views.{parent_is, line_is, root_is, parent_older, parent_living, length-all}
 use Rattle.kom_tree.proofs.tree.Tree.parent.Goals as goal
 
 pub parent_in-requires : goal.parent_in-requires
@@ -27,3 +27,8 @@ pub returns-clause-living : goal.returns-clause-living
 returns-clause-living c =
     let i = c.self.inside in
     rw (c.parent_in.ensures, ← c.self.view_is) (parent_living i.family.origins.items i.living.items c.self.invariant.forest c.args.c)
+
+pub returns-clause-line : goal.returns-clause-line
+returns-clause-line c =
+    let i = c.self.inside in
+    rw (c.parent_in.ensures, ← c.self.view_is) (line_is i.family.origins.items i.living.items c.self.invariant.forest c.args.c)
