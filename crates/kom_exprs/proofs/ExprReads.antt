@@ -1,37 +1,29 @@
 -- What the rules of expressions read is spelled so, and what they refuse had begun one.
-use Rattle.std.proofs.Common.{◌≡◌, ℕ, pos, zero, suc, ◌+◌, ◌≤◌, ◌<◌, Bool, true, false, not, List, [], ◌∷◌, ◌++◌, Option, Some, None, refl, sym, ◌∙◌, ap, subst, arith, rules, if◌then◌else◌, append_assoc, add-zero, length}
-use Rattle.std.specs.Prelude.{is_some, codes, ◌==◌, bytes_eq, option_and_then}
+use Rattle.std.proofs.Common.{◌≡◌, ℕ, pos, neg_ℤ, zero, suc, ◌+◌, ◌<◌, Bool, true, false, List, [], ◌∷◌, ◌++◌, Option, Some, None, refl, sym, ◌∙◌, ap, subst, arith, if◌then◌else◌, append_assoc, add-zero}
+use Rattle.std.specs.Prelude.{is_some, codes, ◌==◌}
 use Rattle.std.proofs.lemmas.Bool.{eqb-true, eqb-false}
 use Rattle.std.proofs.lemmas.Bool.Decides.{Decides-eqb}
 use Rattle.std.proofs.lemmas.List.{append-nil}
 use Rattle.kom_lang.specs.declared.expr.Binary.{Binary}
 use Rattle.kom_lang.specs.declared.expr.Binary.TheVariants as b
-use Rattle.kom_system.specs.declared.parts.Spot.{Spot}
 use Rattle.kom_system.specs.declared.parts.ExprPart.{ExprPart}
 use Rattle.kom_system.specs.declared.parts.ExprPart.TheVariants as e
-use Rattle.kom_text.specs.declared.token.TokenKind.{TokenKind}
-use Rattle.kom_text.specs.declared.token.TokenKind.TheVariants.{Word, Number, Sign}
+use Rattle.kom_text.specs.declared.token.TokenKind.TheVariants.{Word, Sign}
 use Rattle.kom_text.specs.Numbers.{decimal}
-use Rattle.kom_parse.specs.declared.numeral.Numeral.{Numeral}
 use Rattle.kom_parse.specs.Lexemes.{Lexeme, word_lexeme, sign_lexeme, number_lexeme}
-use Rattle.kom_parse.specs.Input.{Read, Parser, ◌>>=◌, ◌>>◌, pure, refuse, by_next, want, loop}
-use Rattle.kom_parse.specs.Rules.{is_kind, is_exactly, exactly, name, number, number_in, sign_in}
+use Rattle.kom_parse.specs.Input.{Read, Parser, ◌>>=◌, refuse, loop}
+use Rattle.kom_parse.specs.Rules.{is_kind, is_exactly, number_in, sign_in}
 use Rattle.kom_parse.proofs.Laws.{IsReader, bind, pure_reader, refuse_reader, by_next_reader, want_then, wider, then_give, if_reader, Turned, loop_reader, loop_goes}
-use Rattle.kom_parse.proofs.Tokens.{bytes_is, bytes_self, kind_is, exactly_then, name_then, number_is}
-use Rattle.kom_grammar.specs.Words.{is_name, SpellsName, name as spells_name, sign_of, level_of}
-use Rattle.kom_grammar.specs.Expressions.{comparison, whole, SpellsAt, number as spells_number, name as a_name, attribute as an_attribute, in_parens, negative, inverse, alone, chain, compare, SpellsExpr, max_parens, max_operators}
+use Rattle.kom_parse.proofs.Tokens.{kind_is, exactly_then, eat_token_then, name_then, number_then, by_bytes-is}
+use Rattle.kom_grammar.specs.Words.{is_name, name as spells_name, sign_of, level_of}
+use Rattle.kom_grammar.specs.Expressions.{comparison, whole, SpellsAt, number as spells_number, name as a_name, attribute as an_attribute, in_parens, negative, inverse, alone, chain, compare, SpellsExpr, max_parens, max_operators, SpellsInt, plain, minus}
 use Rattle.kom_exprs.specs.declared.operators.Unary.{Unary}
 use Rattle.kom_exprs.specs.declared.operators.Unary.TheVariants as u
-use Rattle.kom_exprs.specs.Reading.{Found, unary_sign, with_unary, by_sign, unary_signs, binary_signs, unary_of, binary_of, of_level, unary_in, operator_in, operator, unary_operator, attribute, operand_by, operand, term_by, unary, operation_by, operation, after_one, level, parens_at, expr}
+use Rattle.kom_exprs.specs.Reading.{Found, unary_sign, with_unary, unary_signs, binary_signs, unary_of, binary_of, unary_in, operator_in, operator, unary_operator, attribute, operand_by, operand, term_by, unary, operation_by, operation, after_one, level, parens_at, expr, int}
 
 -- some name
 abbrev pub some_word : List ℕ
 some_word = 120 ∷ []
-
--- each stands with its sign
-abbrev pub AllSigned : {A : Type 0} → (A → List ℕ) → List (List ℕ × A) → Type 0
-AllSigned sign [] = Unit {0}
-AllSigned sign (x ∷ xs) = (x.0 ≡ sign x.1) × AllSigned sign xs
 
 -- A value of so many operators, where as many are left over as are not in it.
 pub record FoundAt (p h k : ℕ) (t : List Lexeme) (x : Found) : Type 0 where
@@ -53,19 +45,11 @@ pub record ChainFrom (p h : ℕ) (x : Found) (t : List Lexeme) (y : Found) : Typ
 
 -- ---- operators by their signs
 
--- the bytes are a sign that stands with what was found
-pub by_sign-is : {A : Type 0} (sign : A → List ℕ) (bytes : List ℕ) (xs : List (List ℕ × A)) (a : A) → AllSigned sign xs → by_sign bytes xs ≡ Some a → bytes ≡ sign a
-by_sign-is sign bytes [] a all e = absurd cc
-by_sign-is sign bytes (x ∷ xs) a all e = by_case (bytes_eq bytes x.0) refl (by_sign-is sign bytes xs a (all.1)) where
-  by_case : (t : Bool) → bytes_eq bytes x.0 ≡ t → (by_sign bytes xs ≡ Some a → bytes ≡ sign a) → bytes ≡ sign a
-  by_case true h k = let e' = rw h at e in let v : x.1 ≡ a = cc in bytes_is bytes x.0 h ∙ all.0 ∙ ap sign v
-  by_case false h k = k (rw h at e)
-
 unary_of_is : (bytes : List ℕ) (op : Unary) → unary_of bytes ≡ Some op → bytes ≡ unary_sign op
-unary_of_is bytes op e = by_sign-is unary_sign bytes unary_signs op (refl, (refl, tt)) e
+unary_of_is bytes op e = by_bytes-is unary_sign bytes unary_signs op (refl, (refl, tt)) e
 
 binary_of_is : (bytes : List ℕ) (op : Binary) → binary_of bytes ≡ Some op → bytes ≡ sign_of op
-binary_of_is bytes op e = by_sign-is sign_of bytes binary_signs op (refl, (refl, (refl, (refl, (refl, (refl, (refl, (refl, (refl, (refl, (refl, (refl, (refl, tt))))))))))))) e
+binary_of_is bytes op e = by_bytes-is sign_of bytes binary_signs op (refl, (refl, (refl, (refl, (refl, (refl, (refl, (refl, (refl, (refl, (refl, (refl, (refl, tt))))))))))))) e
 
 -- the token is the sign that was found
 sign_is : (l : Lexeme) (bytes : List ℕ) → sign_in (Some l) ≡ Some bytes → l ≡ sign_lexeme bytes l.at
@@ -142,15 +126,6 @@ operator_then h less q L r =
     (λ l op e. let k = operator_in_is (suc h) l op e in subst (λ x. IsReader (q op) (λ u b. L (x ∷ u) b)) (sym k.0) (r op l.at k.1))
 
 -- ---- operands
-
-number_then : {B : Type 0} (q : Numeral → Parser B) (L : List Lexeme → B → Type 0) → ((ds : List ℕ) (a : ℕ) → IsReader (q (record { value = pos (decimal ds); at = a })) (λ u b. L (number_lexeme ds a ∷ u) b)) → IsReader (number >>= q) L
-unfolding number
-number_then q L r = want_then number_in refl q L (number_lexeme (48 ∷ []) 0) (record { value = pos 0; at = 0 }) refl
-    (λ l n e. by_parts l n (number_is l n e)) where
-      by_parts : (l : Lexeme) (n : Numeral) → (l ≡ number_lexeme l.bytes n.at) × (pos (decimal l.bytes) ≡ n.value) → IsReader (q n) (λ u b. L (l ∷ u) b)
-      by_parts l n k =
-          let made : record { value = pos (decimal l.bytes); at = n.at } ≡ n = ap (λ v. let z : Numeral = record { value = v; at = n.at } in z) k.1 in
-          subst (λ m. IsReader (q m) (λ u b. L (l ∷ u) b)) made (subst (λ x. IsReader (q (record { value = pos (decimal l.bytes); at = n.at })) (λ u b. L (x ∷ u) b)) (sym k.0) (r l.bytes n.at))
 
 -- what spells an operand, with no operator and no parenthesis
 abbrev pub SpellsOperand : List Lexeme → ExprPart → Type 0
@@ -271,3 +246,12 @@ pub expr_reader : IsReader expr SpellsExpr
 unfolding expr
 expr_reader = then_give (FoundAt max_parens whole max_operators) (λ x. x.0) SpellsExpr (level_reader (parens_at max_parens) max_parens (parens_reader max_parens) whole (omega arith) max_operators)
     (λ t x w. (w.count, omega (arith, w.room), w.spells))
+
+-- ---- numbers of declarations
+
+pub int_reader : IsReader int SpellsInt
+unfolding int
+int_reader = eat_token_then Sign (codes "-") _ SpellsInt
+    (λ a. number_then _ (λ u b. SpellsInt (sign_lexeme (codes "-") a ∷ u) b) (λ ds b.
+    pure_reader (λ u i. SpellsInt (sign_lexeme (codes "-") a ∷ number_lexeme ds b ∷ u) i) (neg_ℤ (pos (decimal ds))) (minus a b)))
+    (number_then _ SpellsInt (λ ds a. pure_reader (λ u i. SpellsInt (number_lexeme ds a ∷ u) i) (pos (decimal ds)) (plain a)))

@@ -1,13 +1,12 @@
 -- What the methods for expressions need of the rules.
-use Rattle.std.proofs.Common.{◌≡◌, ◌≢◌, ℕ, zero, suc, ◌+◌, ◌-◌, ◌≤◌, ◌<◌, Bool, true, false, List, [], ◌∷◌, Option, Some, None, refl, sym, ◌∙◌, ap, arith, rules, sub-one}
+use Rattle.std.proofs.Common.{◌≡◌, ◌≢◌, ℕ, zero, suc, ◌-◌, ◌≤◌, ◌<◌, true, false, List, Some, refl, ◌∙◌, arith, sub-one}
 use Rattle.std.specs.Prelude.{codes, is_some, Result, Ok, Err}
 use Rattle.kom_system.specs.declared.parts.ExprPart.{ExprPart}
 use Rattle.kom_parse.specs.declared.stop.Stop.{Stop}
 use Rattle.kom_text.specs.declared.token.TokenKind.TheVariants.{Sign}
 use Rattle.kom_parse.specs.Lexemes.{Lexeme}
-use Rattle.kom_parse.specs.Input.{Outcome, Read, Refuse, Parser, Reads, ReadsWithin, and_then, pure, first, loop}
+use Rattle.kom_parse.specs.Input.{Read, Parser, Reads, ReadsWithin, and_then, pure, first, loop}
 use Rattle.kom_parse.specs.Rules.{is_exactly}
-use Rattle.kom_grammar.specs.Expressions.{comparison}
 use Rattle.kom_exprs.specs.Reading.{Found, unary_in, operand, unary, operation, level, parens_at}
 use Rattle.kom_exprs.proofs.ExprReads.{chain_goes, level_reader, parens_reader}
 use Rattle.kom_exprs.proofs.ExprWhole.{level_of_chain}

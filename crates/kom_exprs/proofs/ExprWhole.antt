@@ -1,24 +1,24 @@
 -- What spells an expression is read as it.
-use Rattle.std.proofs.Common.{◌≡◌, ℕ, pos, zero, suc, ◌+◌, ◌-◌, ◌≤◌, ◌<◌, Bool, true, false, not, List, [], ◌∷◌, ◌++◌, Option, Some, None, refl, sym, ◌∙◌, ap, subst, arith, rules, if◌then◌else◌, append_assoc, add-zero, length}
-use Rattle.std.specs.Prelude.{is_some, codes, ◌==◌, bytes_eq, option_and_then}
+use Rattle.std.proofs.Common.{◌≡◌, ℕ, ℤ, pos, zero, suc, ◌+◌, ◌-◌, ◌≤◌, ◌<◌, Bool, true, false, List, [], ◌∷◌, ◌++◌, Option, Some, None, refl, sym, ◌∙◌, subst, arith, append_assoc}
+use Rattle.std.specs.Prelude.{codes, ◌==◌, bytes_eq}
 use Rattle.std.proofs.lemmas.Bool.{ne_eqb, eqb-true, eqb-false}
 use Rattle.kom_lang.specs.declared.expr.Binary.{Binary}
 use Rattle.kom_lang.specs.declared.expr.Binary.TheVariants as b
 use Rattle.kom_system.specs.declared.parts.Spot.{Spot}
 use Rattle.kom_system.specs.declared.parts.ExprPart.{ExprPart}
 use Rattle.kom_system.specs.declared.parts.ExprPart.TheVariants as e
-use Rattle.kom_text.specs.declared.token.TokenKind.TheVariants.{Word, Number, Sign}
+use Rattle.kom_text.specs.declared.token.TokenKind.TheVariants.{Word, Sign}
 use Rattle.kom_text.specs.Numbers.{decimal}
 use Rattle.kom_parse.specs.Lexemes.{Lexeme, word_lexeme, sign_lexeme, number_lexeme}
-use Rattle.kom_parse.specs.Input.{Outcome, Read, Parser, and_then, ◌>>=◌, pure, first, want, loop, by_next}
-use Rattle.kom_parse.specs.Rules.{is_exactly, exactly, name, number, sign_in}
+use Rattle.kom_parse.specs.Input.{Read, Parser, and_then, ◌>>=◌, pure, first, want, eat_if, loop}
+use Rattle.kom_parse.specs.Rules.{is_exactly, number, sign_in, eat}
 use Rattle.kom_parse.proofs.Laws.{loop_stops}
-use Rattle.kom_parse.proofs.Tokens.{bytes_is, exactly_reads, name_reads}
+use Rattle.kom_parse.proofs.Tokens.{bytes_is, exactly_reads, name_reads, number_reads}
 use Rattle.kom_grammar.specs.Words.{is_name, SpellsName, name as spells_name, sign_of, level_of}
-use Rattle.kom_grammar.specs.Expressions.{comparison, whole as whole_level, SpellsAt, number as spells_number, name as a_name, attribute as an_attribute, in_parens, negative, inverse, alone, chain, compare, SpellsExpr, max_parens, max_operators}
+use Rattle.kom_grammar.specs.Expressions.{comparison, whole as whole_level, SpellsAt, number as spells_number, name as a_name, attribute as an_attribute, in_parens, negative, inverse, alone, chain, compare, SpellsExpr, max_parens, max_operators, SpellsInt, plain, minus}
 use Rattle.kom_exprs.specs.declared.operators.Unary.{Unary}
 use Rattle.kom_exprs.specs.declared.operators.Unary.TheVariants as u
-use Rattle.kom_exprs.specs.Reading.{Found, unary_sign, with_unary, binary_of, of_level, unary_in, operator_in, operator, unary_operator, attribute, operand, unary, operation_by, operation, after_one, level, parens_at, expr}
+use Rattle.kom_exprs.specs.Reading.{Found, unary_sign, with_unary, binary_of, of_level, unary_in, operator_in, operator, unary_operator, attribute, operand, unary, operation, after_one, level, parens_at, expr, int}
 use Rattle.kom_exprs.proofs.ExprReads.{chain_goes, level_reader, parens_reader, operator_in-sign_of, binary_of-sign_of}
 
 -- no operator is of the level of operands
@@ -240,3 +240,9 @@ unfolding expr
 expr_whole t x after (n, less, d) stops =
     let w : Whole max_parens whole_level n t x = whole d in
     rw (w.whole max_operators (max_operators - n) after (omega arith) stops) refl
+
+-- a number is read whatever follows
+pub int_whole : (t : List Lexeme) (i : ℤ) (after : List Lexeme) → SpellsInt t i → int (t ++ after) ≡ Read i after
+unfolding int eat eat_if
+int_whole t i after (plain a {ds = ds}) = rw (number_reads ds a after) refl
+int_whole t i after (minus a b {ds = ds}) = rw (number_reads ds b after) refl

@@ -1,4 +1,6 @@
 pub mod NameSteps
+pub mod NameLaws
+pub mod NumberSteps
 pub mod Steps
 pub mod ExprReads
 pub mod ExprWhole

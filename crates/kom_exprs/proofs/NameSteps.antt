@@ -1,10 +1,9 @@
 -- A name is a word that is not reserved.
-use Rattle.std.proofs.Common.{◌≡◌, ℕ, Bool, true, false, List, Option, Some, None, refl, sym, ◌∙◌, ap}
+use Rattle.std.proofs.Common.{◌≡◌, true, false, List, Option, Some, None, sym, ◌∙◌, ap}
 use Rattle.std.specs.Prelude.{option_map}
-use Rattle.kom_system.specs.declared.parts.Spot.{Spot}
 use Rattle.kom_parse.specs.declared.numeral.WordAt.{WordAt}
 use Rattle.kom_parse.specs.Lexemes.{Lexeme}
-use Rattle.kom_parse.specs.Input.{Outcome, Read, Refuse, first}
+use Rattle.kom_parse.specs.Input.{Refuse, first}
 use Rattle.kom_parse.specs.Rules.{any, spot_of, name_in, name}
 use Rattle.kom_parse.proofs.Steps.{name_passes, name_fails, name_absent}
 use Rattle.kom_grammar.specs.Words.{is_name}

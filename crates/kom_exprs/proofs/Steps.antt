@@ -1,9 +1,8 @@
 -- What the reader's own tests say of the operators.
-use Rattle.std.proofs.Common.{◌≡◌, ℕ, Bool, true, false, List, [], ◌∷◌, Option, Some, None, Ok, Err, refl, sym, ◌∙◌, ap, rules}
+use Rattle.std.proofs.Common.{◌≡◌, ℕ, Bool, true, false, List, Option, Some, None, Ok}
 use Rattle.kom_lang.specs.declared.expr.Binary.{Binary}
-use Rattle.kom_system.specs.declared.parts.ExprPart.{ExprPart}
 use Rattle.kom_parse.specs.Lexemes.{Lexeme}
-use Rattle.kom_parse.specs.Input.{Outcome, Read, Refuse, Parser, first, rest, ReadsTurn}
+use Rattle.kom_parse.specs.Input.{Outcome, Read, Refuse, first, rest, ReadsTurn}
 use Rattle.kom_parse.proofs.Steps.{want_found, want_missing}
 use Rattle.kom_exprs.specs.declared.operators.Unary.{Unary}
 use Rattle.kom_exprs.specs.Reading.{operator_in, unary_in, operator, unary_operator}

@@ -1,17 +1,15 @@
 -- How expressions are read from left to right, a function for each method. The value of a rule is
 -- the tree, and how many operators may still come.
-use Rattle.std.specs.Prelude.{ℕ, zero, suc, ◌==◌, Bool, true, false, not, ◌||◌, ◌&&◌, List, [], ◌∷◌, Option, Some, None, is_some, codes, bytes_eq, option_and_then, if◌then◌else◌}
+use Rattle.std.specs.Prelude.{ℕ, ℤ, neg_ℤ, zero, suc, ◌==◌, Bool, true, false, List, [], ◌∷◌, Option, Some, None, is_some, codes, option_and_then, if◌then◌else◌}
 use Rattle.kom_lang.specs.declared.expr.Binary.{Binary}
 use Rattle.kom_lang.specs.declared.expr.Binary.TheVariants as b
-use Rattle.kom_system.specs.declared.parts.Spot.{Spot}
 use Rattle.kom_system.specs.declared.parts.ExprPart.{ExprPart}
 use Rattle.kom_system.specs.declared.parts.ExprPart.TheVariants as e
-use Rattle.kom_text.specs.declared.token.TokenKind.TheVariants.{Word, Number, Sign}
-use Rattle.kom_parse.specs.declared.numeral.Numeral.{Numeral}
+use Rattle.kom_text.specs.declared.token.TokenKind.TheVariants.{Word, Sign}
 use Rattle.kom_parse.specs.Lexemes.{Lexeme}
 use Rattle.kom_parse.specs.Input.{Parser, ◌>>=◌, ◌>>◌, pure, refuse, by_next, want, loop}
-use Rattle.kom_parse.specs.Rules.{is_exactly, exactly, name, number, number_in, sign_in}
-use Rattle.kom_grammar.specs.Words.{is_name, sign_of, level_of}
+use Rattle.kom_parse.specs.Rules.{is_exactly, exactly, name, number, number_in, sign_in, eat, by_bytes}
+use Rattle.kom_grammar.specs.Words.{is_name, level_of}
 use Rattle.kom_grammar.specs.Expressions.{comparison, whole, max_parens, max_operators}
 use Rattle.kom_exprs.specs.declared.operators.Unary.{Unary}
 use Rattle.kom_exprs.specs.declared.operators.Unary.TheVariants as u
@@ -26,11 +24,6 @@ abbrev pub with_unary : Unary → ExprPart → ExprPart
 with_unary u.Neg x = e.Neg x
 with_unary u.Not x = e.Not x
 
--- what stands behind the first of these signs that equals the bytes
-abbrev pub by_sign : {A : Type 0} → List ℕ → List (List ℕ × A) → Option A
-by_sign bytes [] = None
-by_sign bytes (x ∷ xs) = if bytes_eq bytes x.0 then Some x.1 else by_sign bytes xs
-
 abbrev pub unary_signs : List (List ℕ × Unary)
 unary_signs = (codes "-", u.Neg) ∷ (codes "!", u.Not) ∷ []
 
@@ -40,10 +33,10 @@ binary_signs =
     ∷ (codes ">=", b.Ge) ∷ (codes "+", b.Add) ∷ (codes "-", b.Sub) ∷ (codes "*", b.Mul) ∷ (codes "/", b.Div) ∷ (codes "%", b.Rem) ∷ []
 
 abbrev pub unary_of : List ℕ → Option Unary
-unary_of bytes = by_sign bytes unary_signs
+unary_of bytes = by_bytes bytes unary_signs
 
 abbrev pub binary_of : List ℕ → Option Binary
-binary_of bytes = by_sign bytes binary_signs
+binary_of bytes = by_bytes bytes binary_signs
 
 abbrev pub of_level : ℕ → Option Binary → Option Binary
 of_level l None = None
@@ -123,3 +116,11 @@ parens_at (suc p) k = do
 
 unfoldable pub expr : Parser ExprPart
 expr = level (parens_at max_parens) whole max_operators >>= (λ x. pure x.0)
+
+abbrev pub int_by : Bool → Parser ℤ
+int_by true = number >>= (λ n. pure (neg_ℤ n.value))
+int_by false = number >>= (λ n. pure n.value)
+
+-- a number with or without a minus sign
+unfoldable pub int : Parser ℤ
+int = eat Sign (codes "-") >>= int_by

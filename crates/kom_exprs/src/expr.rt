@@ -1,7 +1,8 @@
 ghost use Rattle.std.specs.Prelude.{◌≡◌, ◌≢◌, ◌≤◌, ◌<◌, ◌+◌, ◌-◌, IfOk, if◌then◌else◌};
 ghost use Rattle.kom_parse.specs.Input.{Reads, ReadsWithin, ReadsTurn, loop, first};
 ghost use Rattle.kom_exprs.specs.Reading as spec;
-ghost use Rattle.kom_exprs.specs.Answers.{IsAnswer};
+ghost use Rattle.kom_parse.specs.Answers.{IsAnswer};
+ghost use Rattle.kom_grammar.specs.Expressions.{SpellsExpr};
 
 use crate::names::read_name;
 use crate::operators::{Unary, binary_of_level, unary_of};
@@ -112,10 +113,10 @@ fn operand(reader: &mut Reader<'_>) -> Result<ExprPart, Stop>
 /// Reads an expression: at most 32 operators, and at most 64 parentheses open at one place. It is
 /// read as far as it goes on; `Refused` comes at the first token at which no expression goes on so,
 /// which is left as the next one.
-#[tactic(auto, unfolding(crate::specs::Reading::expr), using(crate::proofs::Exact::exact))]
+#[tactic(auto, unfolding(crate::specs::Reading::expr), using(crate::proofs::Exact::expr_exact))]
 pub fn read_expr(reader: &mut Reader<'_>) -> Result<ExprPart, Stop>
     ensures reads { Reads (spec.expr reader.old) result reader.new }
-    ensures exact { IsAnswer reader.old result reader.new }
+    ensures exact { IsAnswer SpellsExpr reader.old result reader.new }
 {
     let mut operators = MAX_OPERATORS;
     read_level(reader, WHOLE, MAX_PARENS, &mut operators)

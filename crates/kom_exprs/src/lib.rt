@@ -3,10 +3,12 @@
 
 mod expr;
 mod names;
+mod numbers;
 mod operators;
 
 pub use expr::read_expr;
 pub use names::read_name;
+pub use numbers::read_int;
 
 #[cfg(test)]
 mod tests;

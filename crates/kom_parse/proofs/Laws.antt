@@ -1,8 +1,9 @@
 -- What holds of each rule's reading, and how it follows from that of its parts.
 use Rattle.std.proofs.Common.{◌≡◌, ℕ, zero, suc, ◌<◌, Bool, true, false, List, [], ◌∷◌, ◌++◌, length, Option, Some, None, refl, sym, ◌∙◌, ap, subst, append_assoc, ◌⊎◌, inl, inr, arith, length-append, if◌then◌else◌}
+use Rattle.std.specs.Prelude.{is_some}
 use Rattle.std.proofs.lemmas.List.{append-nil}
 use Rattle.kom_parse.specs.Lexemes.{Lexeme}
-use Rattle.kom_parse.specs.Input.{Outcome, Read, Refuse, Parser, and_then, ◌>>=◌, pure, refuse, first, rest, by_next, want, eat_if, turns_from, turns, loop}
+use Rattle.kom_parse.specs.Input.{Outcome, Read, Refuse, Parser, and_then, ◌>>=◌, pure, refuse, first, rest, by_next, want, eat_if, may, turns_from, turns, loop}
 
 -- What was read up to after is a value's text, and would be read alike before whatever begins alike.
 pub record Took {A : Type 0} (p : Parser A) (L : List Lexeme → A → Type 0) (ts : List Lexeme) (a : A) (after : List Lexeme) : Type 0 where
@@ -226,11 +227,11 @@ EatenBy test t false = t ≡ []
 pub record Eaten (test : Option Lexeme → Bool) (t : List Lexeme) (b : Bool) : Type 0 where
   pub is : EatenBy test t b
 
-eat_again : (test : Option Lexeme → Bool) (other : List Lexeme) → test (first other) ≡ false → eat_if test other ≡ Read false other
+pub eat_misses : (test : Option Lexeme → Bool) (other : List Lexeme) → test (first other) ≡ false → eat_if test other ≡ Read false other
 unfolding eat_if
-eat_again test other e = rw e refl
+eat_misses test other e = rw e refl
 
-eat_takes : (test : Option Lexeme → Bool) (token : Lexeme) (other : List Lexeme) → test (Some token) ≡ true → eat_if test (token ∷ other) ≡ Read true other
+pub eat_takes : (test : Option Lexeme → Bool) (token : Lexeme) (other : List Lexeme) → test (Some token) ≡ true → eat_if test (token ∷ other) ≡ Read true other
 unfolding eat_if
 eat_takes test token other e = rw e refl
 
@@ -240,7 +241,7 @@ module _ (test : Option Lexeme → Bool) (none : test None ≡ false) where
     text = [];
     split = refl;
     spells = record { is = refl };
-    again = λ other same. eat_again test other (ap test same ∙ e);
+    again = λ other same. eat_misses test other (ap test same ∙ e);
   }
   eat_reads_by [] true e = absurd (let e' : false ≡ true = sym none ∙ e in cc)
   eat_reads_by (t ∷ ts) true e = record {
@@ -276,6 +277,65 @@ module _ (test : Option Lexeme → Bool) (none : test None ≡ false) where
     by_case : (v : Bool) (t : List Lexeme) → Eaten test t v → IsReader (q v) (λ u b. L (t ++ u) b)
     by_case true t w = subst (λ x. IsReader (q true) (λ u b. L (x ++ u) b)) (sym w.is.1) (yes' w.is.0 w.is.2)
     by_case false t w = subst (λ x. IsReader (q false) (λ u b. L (x ++ u) b)) (sym w.is) no'
+
+-- a token that may come, and what it stands for
+abbrev pub MayBeBy : {A : Type 0} → (Option Lexeme → Option A) → List Lexeme → Option A → Type 0
+MayBeBy accept t (Some a) = (token : Lexeme) × (t ≡ token ∷ []) × (accept (Some token) ≡ Some a)
+MayBeBy accept t None = t ≡ []
+
+pub record MayBe {A : Type 0} (accept : Option Lexeme → Option A) (t : List Lexeme) (o : Option A) : Type 0 where
+  pub is : MayBeBy accept t o
+
+pub may_misses : {A : Type 0} (accept : Option Lexeme → Option A) (other : List Lexeme) → accept (first other) ≡ None → may accept other ≡ Read None other
+unfolding may
+may_misses accept other e = rw e refl
+
+pub may_takes : {A : Type 0} (accept : Option Lexeme → Option A) (token : Lexeme) (a : A) (other : List Lexeme) → accept (Some token) ≡ Some a → may accept (token ∷ other) ≡ Read (Some a) other
+unfolding may
+may_takes accept token a other e = rw e refl
+
+module _ {A : Type 0} (accept : Option Lexeme → Option A) (none : accept None ≡ None) where
+  may_reads_by : (ts : List Lexeme) (o : Option A) → accept (first ts) ≡ o → Took (may accept) (MayBe accept) ts o (if is_some o then rest ts else ts)
+  may_reads_by ts None e = record {
+    text = [];
+    split = refl;
+    spells = record { is = refl };
+    again = λ other same. may_misses accept other (ap accept same ∙ e);
+  }
+  may_reads_by [] (Some a) e = absurd (let e' : None ≡ Some a = sym none ∙ e in cc)
+  may_reads_by (t ∷ ts) (Some a) e = record {
+    text = t ∷ [];
+    split = refl;
+    spells = record { is = (t, refl, e) };
+    again = λ other same. may_takes accept t a other e;
+  }
+
+  may_is : (ts : List Lexeme) (o : Option A) (after : List Lexeme) → may accept ts ≡ Read o after → (accept (first ts) ≡ o) × ((if is_some o then rest ts else ts) ≡ after)
+  unfolding may
+  may_is ts o after e =
+      let v : accept (first ts) ≡ o = cc in
+      let s : (if is_some (accept (first ts)) then rest ts else ts) ≡ after = cc in
+      (v, rw v at s)
+
+  may_not_refused : (ts : List Lexeme) (after : List Lexeme) → may accept ts ≡ Refuse after → ⊥
+  unfolding may
+  may_not_refused ts after e = cc
+
+  pub may_reader : IsReader (may accept) (MayBe accept)
+  may_reader = record {
+    reads = λ ts o after e. let k = may_is ts o after e in subst (λ x. Took (may accept) (MayBe accept) ts o x) k.1 (may_reads_by ts o k.0);
+    refuses = λ ts after e. absurd (may_not_refused ts after e);
+    text = [];
+    value = None;
+    spells = record { is = refl };
+  }
+
+  pub may_then : {B : Type 0} (q : Option A → Parser B) (L : List Lexeme → B → Type 0)
+      → ((token : Lexeme) (a : A) → accept (Some token) ≡ Some a → IsReader (q (Some a)) (λ u b. L (token ∷ u) b)) → IsReader (q None) L → IsReader (may accept >>= q) L
+  may_then q L some' none' = bind (may accept) q (MayBe accept) L may_reader by_case where
+    by_case : (o : Option A) (t : List Lexeme) → MayBe accept t o → IsReader (q o) (λ u b. L (t ++ u) b)
+    by_case (Some a) t w = subst (λ x. IsReader (q (Some a)) (λ u b. L (x ++ u) b)) (sym w.is.1) (some' w.is.0 a w.is.2)
+    by_case None t w = subst (λ x. IsReader (q None) (λ u b. L (x ++ u) b)) (sym w.is) none'
 
 -- ---- loops
 

@@ -3,6 +3,8 @@ pub mod Steps
 pub mod Covered
 pub mod Tokens
 pub mod RowLaws
+pub mod BetweenLaws
 pub mod ListLaws
 pub mod ListSteps
 pub mod Broken
+pub mod Exact

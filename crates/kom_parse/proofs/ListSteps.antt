@@ -1,18 +1,14 @@
 -- What methods that read lists need of the rules.
-use Rattle.std.proofs.Common.{◌≡◌, ◌<◌, true, false, List, [], ◌∷◌, ◌++◌, length, Some, refl}
+use Rattle.std.proofs.Common.{◌≡◌, ◌<◌, true, false, List, [], ◌∷◌, length, refl}
 use Rattle.std.specs.Prelude.{codes}
 use Rattle.kom_text.specs.declared.token.TokenKind.TheVariants.{Sign}
 use Rattle.kom_parse.specs.Lexemes.{Lexeme}
 use Rattle.kom_parse.specs.Input.{Read, Refuse, Parser, first, loop}
-use Rattle.kom_parse.specs.Rules.{closes, eat, more, list}
-use Rattle.kom_parse.proofs.Laws.{IsReader, loop_stops, loop_refuses}
-use Rattle.kom_parse.proofs.ListLaws.{more_goes, more_shorter}
+use Rattle.kom_parse.specs.Rules.{closes, is_comma, eat, onto, more, list}
+use Rattle.kom_parse.proofs.Laws.{IsReader}
+use Rattle.kom_parse.proofs.BetweenLaws.{more_ends, more_refuses, each_turns, each_shorter}
 
 module _ {A : Type 0} (item : Parser A) where
-  pub more_turn : (xs : List A) (x : A) (ts between after : List Lexeme) → eat Sign (codes ",") ts ≡ Read true between → item between ≡ Read x after → more item xs ts ≡ Read (Some (xs ++ x ∷ [])) after
-  unfolding more
-  more_turn xs x ts between after e e' = rw (e, e') refl
-
   pub list_empty : (ts : List Lexeme) → closes (first ts) ≡ true → list item ts ≡ Read [] ts
   unfolding list
   list_empty ts e = rw e refl
@@ -21,22 +17,24 @@ module _ {A : Type 0} (item : Parser A) where
   unfolding list
   list_refuses ts after e e' = rw (e, e') refl
 
-  pub list_goes : (ts after : List Lexeme) (x : A) → closes (first ts) ≡ false → item ts ≡ Read x after → list item ts ≡ loop (more item) (x ∷ []) after
+  pub list_goes : (ts after : List Lexeme) (x : A) → closes (first ts) ≡ false → item ts ≡ Read x after → list item ts ≡ loop (more is_comma item) (x ∷ []) after
   unfolding list
   list_goes ts after x e e' = rw (e, e') refl
 
-  pub more_ends : (xs : List A) (ts after : List Lexeme) → eat Sign (codes ",") ts ≡ Read false after → loop (more item) xs ts ≡ Read xs after
-  unfolding more
-  more_ends xs ts after e = loop_stops (more item) xs ts after (rw e refl)
+  pub commas_end : (xs : List A) (ts after : List Lexeme) → eat Sign (codes ",") ts ≡ Read false after → loop (more is_comma item) xs ts ≡ Read xs after
+  unfolding eat
+  commas_end xs ts after e = more_ends is_comma item xs ts after e
 
-  pub more_refuses : (xs : List A) (ts between after : List Lexeme) → eat Sign (codes ",") ts ≡ Read true between → item between ≡ Refuse after → loop (more item) xs ts ≡ Refuse after
-  unfolding more
-  more_refuses xs ts between after e e' = loop_refuses (more item) xs ts after (rw (e, e') refl)
+  pub commas_refuse : (xs : List A) (ts middle after : List Lexeme) → eat Sign (codes ",") ts ≡ Read true middle → item middle ≡ Refuse after → loop (more is_comma item) xs ts ≡ Refuse after
+  unfolding eat
+  commas_refuse xs ts middle after e e' = more_refuses is_comma item xs ts middle after e e'
 
   module _ (Spells : List Lexeme → A → Type 0) (r : IsReader item Spells) where
-    pub list_turns : (xs : List A) (x : A) (ts between after : List Lexeme) → eat Sign (codes ",") ts ≡ Read true between → item between ≡ Read x after
-        → loop (more item) xs ts ≡ loop (more item) (xs ++ x ∷ []) after
-    list_turns xs x ts between after e e' = more_goes item Spells r xs (xs ++ x ∷ []) ts after (more_turn xs x ts between after e e')
+    pub commas_turn : (xs : List A) (x : A) (ts middle after : List Lexeme) → eat Sign (codes ",") ts ≡ Read true middle → item middle ≡ Read x after
+        → loop (more is_comma item) xs ts ≡ loop (more is_comma item) (onto xs x) after
+    unfolding eat
+    commas_turn xs x ts middle after e e' = each_turns is_comma refl item Spells r xs x ts middle after e e'
 
-    pub list_shorter : (x : A) (ts between after : List Lexeme) → eat Sign (codes ",") ts ≡ Read true between → item between ≡ Read x after → length after < length ts
-    list_shorter x ts between after e e' = more_shorter item Spells r [] (x ∷ []) ts after (more_turn [] x ts between after e e')
+    pub commas_shorter : (x : A) (ts middle after : List Lexeme) → eat Sign (codes ",") ts ≡ Read true middle → item middle ≡ Read x after → length after < length ts
+    unfolding eat
+    commas_shorter x ts middle after e e' = each_shorter is_comma refl item Spells r x ts middle after e e'

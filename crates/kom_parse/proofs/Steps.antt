@@ -1,13 +1,13 @@
 -- What the cursor's own tests say of the steps.
 use Rattle.std.proofs.Common.{◌≡◌, ℕ, Bool, true, false, List, [], ◌∷◌, Option, Some, None, refl, sym, ◌∙◌, ap}
-use Rattle.std.specs.Prelude.{option_map}
+use Rattle.std.specs.Prelude.{option_map, is_some}
 use Rattle.kom_text.specs.declared.token.TokenKind.{TokenKind}
 use Rattle.kom_text.specs.declared.token.TokenKind.TheVariants.{Word}
 use Rattle.kom_system.specs.declared.parts.Spot.{Spot}
 use Rattle.kom_parse.specs.declared.numeral.Numeral.{Numeral}
 use Rattle.kom_parse.specs.declared.numeral.WordAt.{WordAt}
 use Rattle.kom_parse.specs.Lexemes.{Lexeme}
-use Rattle.kom_parse.specs.Input.{Read, Refuse, first, rest, want, eat_if}
+use Rattle.kom_parse.specs.Input.{Read, Refuse, first, rest, want, eat_if, may}
 use Rattle.kom_parse.specs.Rules.{is_kind, any, spot_of, exactly_in, is_exactly, name_in, number_in, exactly, name, number, eat}
 
 pub want_found : {A : Type 0} (accept : Option Lexeme → Option A) (a : A) (ts : List Lexeme) → accept (first ts) ≡ Some a → want accept ts ≡ Read a (rest ts)
@@ -90,3 +90,11 @@ eat_found kind bytes ts e = rw e refl
 pub eat_missing : (kind : TokenKind) (bytes : List ℕ) (ts : List Lexeme) → is_exactly kind bytes (first ts) ≡ false → eat kind bytes ts ≡ Read false ts
 unfolding eat eat_if
 eat_missing kind bytes ts e = rw e refl
+
+pub may_found : {A : Type 0} (accept : Option Lexeme → Option A) (ts : List Lexeme) → is_some (accept (first ts)) ≡ true → may accept ts ≡ Read (accept (first ts)) (rest ts)
+unfolding may
+may_found accept ts e = rw e refl
+
+pub may_missing : {A : Type 0} (accept : Option Lexeme → Option A) (ts : List Lexeme) → is_some (accept (first ts)) ≡ false → may accept ts ≡ Read (accept (first ts)) ts
+unfolding may
+may_missing accept ts e = rw e refl

@@ -1,5 +1,5 @@
 -- The steps of one token, as parts of rules.
-use Rattle.std.proofs.Common.{◌≡◌, ℕ, pos, Bool, true, false, ◌&&◌, List, ◌∷◌, Option, Some, None, refl, sym, subst}
+use Rattle.std.proofs.Common.{◌≡◌, ℕ, pos, Bool, true, false, ◌&&◌, List, [], ◌∷◌, Option, Some, None, refl, sym, ap, ◌∙◌, subst}
 use Rattle.std.specs.Prelude.{bytes_eq}
 use Rattle.std.proofs.lemmas.Slice.Eq.{bytes_eq-Decides}
 use Rattle.kom_text.specs.declared.token.TokenKind.{TokenKind}
@@ -8,10 +8,10 @@ use Rattle.kom_text.specs.Numbers.{decimal}
 use Rattle.kom_system.specs.declared.parts.Spot.{Spot}
 use Rattle.kom_parse.specs.declared.numeral.Numeral.{Numeral}
 use Rattle.kom_parse.specs.Lexemes.{Lexeme, word_lexeme, number_lexeme}
-use Rattle.kom_parse.specs.Input.{Read, Parser, ◌>>=◌, first, want, eat_if}
-use Rattle.kom_parse.specs.Rules.{is_kind, exactly_in, is_exactly, name_in, number_in, exactly, name, number, eat}
-use Rattle.kom_parse.specs.Spelled.{SpellsName, named}
-use Rattle.kom_parse.proofs.Laws.{IsReader, Wanted, want_reader, want_then, eat_then, wider}
+use Rattle.kom_parse.specs.Input.{Read, Parser, ◌>>=◌, first, want, eat_if, may}
+use Rattle.kom_parse.specs.Rules.{is_kind, exactly_in, is_exactly, name_in, number_in, exactly, name, number, eat, by_bytes, word_among}
+use Rattle.kom_parse.specs.Spelled.{SpellsName, named, SpellsNumber, numbered}
+use Rattle.kom_parse.proofs.Laws.{IsReader, Wanted, want_reader, want_then, eat_then, may_then, wider}
 
 pub kind_is : (a b : TokenKind) → is_kind a b ≡ true → a ≡ b
 kind_is Word Word e = refl
@@ -50,6 +50,12 @@ exactly_is k w l a e = by_case (is_kind l.kind k && bytes_eq l.bytes w) refl whe
       let kind : l.kind ≡ k = kind_is l.kind k k'.0 in
       let bytes : l.bytes ≡ w = bytes_is l.bytes w k'.1 in
       rw (← kind, ← bytes, ← at) refl
+
+pub is_exactly-is : (k : TokenKind) (w : List ℕ) (l : Lexeme) → is_exactly k w (Some l) ≡ true → l ≡ lexeme_of k w l.at
+is_exactly-is k w l e = by_case (is_kind l.kind k && bytes_eq l.bytes w) refl where
+  by_case : (b : Bool) → (is_kind l.kind k && bytes_eq l.bytes w) ≡ b → l ≡ lexeme_of k w l.at
+  by_case true h = exactly_is k w l l.at (rw h refl)
+  by_case false h = absurd (let e' = rw h at e in cc)
 
 pub exactly_self : (k : TokenKind) (w : List ℕ) (a : ℕ) → exactly_in k w (Some (lexeme_of k w a)) ≡ Some a
 exactly_self k w a = rw (kind_self, bytes_self) refl
@@ -122,3 +128,58 @@ number_is l v e = by_case (is_kind l.kind Number) refl where
 pub number_reads : (ds : List ℕ) (a : ℕ) (after : List Lexeme) → number (number_lexeme ds a ∷ after) ≡ Read (record { value = pos (decimal ds); at = a }) after
 unfolding number want
 number_reads ds a after = refl
+
+pub number_then : {B : Type 0} (q : Numeral → Parser B) (L : List Lexeme → B → Type 0) → ((ds : List ℕ) (a : ℕ) → IsReader (q (record { value = pos (decimal ds); at = a })) (λ u b. L (number_lexeme ds a ∷ u) b)) → IsReader (number >>= q) L
+unfolding number
+number_then q L r = want_then number_in refl q L (number_lexeme (48 ∷ []) 0) (record { value = pos 0; at = 0 }) refl
+    (λ l n e. by_parts l n (number_is l n e)) where
+      by_parts : (l : Lexeme) (n : Numeral) → (l ≡ number_lexeme l.bytes n.at) × (pos (decimal l.bytes) ≡ n.value) → IsReader (q n) (λ u b. L (l ∷ u) b)
+      by_parts l n k =
+          let made : record { value = pos (decimal l.bytes); at = n.at } ≡ n = ap (λ v. let z : Numeral = record { value = v; at = n.at } in z) k.1 in
+          subst (λ m. IsReader (q m) (λ u b. L (l ∷ u) b)) made (subst (λ x. IsReader (q (record { value = pos (decimal l.bytes); at = n.at })) (λ u b. L (x ∷ u) b)) (sym k.0) (r l.bytes n.at))
+
+pub number_reader : IsReader number SpellsNumber
+unfolding number
+number_reader = wider (Wanted number_in) SpellsNumber (want_reader number_in refl (number_lexeme (48 ∷ []) 0) (record { value = pos 0; at = 0 }) refl) (λ t n w.
+    let k = number_is w.token n w.accepted in
+    rw (w.is, k.0) (spelled w.token.bytes n k.1)) where
+      spelled : (ds : List ℕ) (n : Numeral) → pos (decimal ds) ≡ n.value → SpellsNumber (number_lexeme ds n.at ∷ []) n
+      spelled ds n e =
+          let made : record { value = pos (decimal ds); at = n.at } ≡ n = ap (λ v. let z : Numeral = record { value = v; at = n.at } in z) e in
+          subst (λ m. SpellsNumber (number_lexeme ds n.at ∷ []) m) made numbered
+
+-- ---- words that stand for something
+
+-- each stands with its word
+abbrev pub AllSpelled : {A : Type 0} → (A → List ℕ) → List (List ℕ × A) → Type 0
+AllSpelled word [] = Unit {0}
+AllSpelled word (x ∷ xs) = (x.0 ≡ word x.1) × AllSpelled word xs
+
+-- the bytes are the word that stands with what was found
+pub by_bytes-is : {A : Type 0} (word : A → List ℕ) (bytes : List ℕ) (xs : List (List ℕ × A)) (a : A) → AllSpelled word xs → by_bytes bytes xs ≡ Some a → bytes ≡ word a
+by_bytes-is word bytes [] a all e = absurd cc
+by_bytes-is word bytes (x ∷ xs) a all e = by_case (bytes_eq bytes x.0) refl (by_bytes-is word bytes xs a (all.1)) where
+  by_case : (t : Bool) → bytes_eq bytes x.0 ≡ t → (by_bytes bytes xs ≡ Some a → bytes ≡ word a) → bytes ≡ word a
+  by_case true h k = let e' = rw h at e in let v : x.1 ≡ a = cc in bytes_is bytes x.0 h ∙ all.0 ∙ ap word v
+  by_case false h k = k (rw h at e)
+
+module _ {A : Type 0} (word : A → List ℕ) (words : List (List ℕ × A)) (all : AllSpelled word words) where
+  pub word_among-is : (l : Lexeme) (a : A) → word_among words (Some l) ≡ Some a → (l ≡ word_lexeme (word a) l.at) × (by_bytes (word a) words ≡ Some a)
+  word_among-is l a e = by_case (is_kind l.kind Word) refl where
+    by_case : (b : Bool) → is_kind l.kind Word ≡ b → (l ≡ word_lexeme (word a) l.at) × (by_bytes (word a) words ≡ Some a)
+    by_case false h = absurd (let e' = rw h at e in cc)
+    by_case true h =
+        let found : by_bytes l.bytes words ≡ Some a = rw h at e in
+        let is : l.bytes ≡ word a = by_bytes-is word l.bytes words a all found in
+        let kind : l.kind ≡ Word = kind_is l.kind Word h in
+        (rw (← kind, ← is) refl, rw (← is) found)
+
+  pub among_then : {B : Type 0} (q : Option A → Parser B) (L : List Lexeme → B → Type 0)
+      → ((a : A) (at : ℕ) → by_bytes (word a) words ≡ Some a → IsReader (q (Some a)) (λ u b. L (word_lexeme (word a) at ∷ u) b)) → IsReader (q None) L → IsReader (may (word_among words) >>= q) L
+  among_then q L some' none' = may_then (word_among words) refl q L
+      (λ l a e. let k = word_among-is l a e in subst (λ x. IsReader (q (Some a)) (λ u b. L (x ∷ u) b)) (sym k.0) (some' a l.at k.1)) none'
+
+  pub wanted_then : {B : Type 0} (q : A → Parser B) (L : List Lexeme → B → Type 0) (one : A) → by_bytes (word one) words ≡ Some one
+      → ((a : A) (at : ℕ) → by_bytes (word a) words ≡ Some a → IsReader (q a) (λ u b. L (word_lexeme (word a) at ∷ u) b)) → IsReader (want (word_among words) >>= q) L
+  wanted_then q L one e r = want_then (word_among words) refl q L (word_lexeme (word one) 0) one e
+      (λ l a e'. let k = word_among-is l a e' in subst (λ x. IsReader (q a) (λ u b. L (x ∷ u) b)) (sym k.0) (r a l.at k.1))

@@ -1,5 +1,5 @@
 -- What a rule reads from, and the steps that every rule is made of.
-use Rattle.std.specs.Prelude.{◌≡◌, ℕ, zero, suc, Bool, true, false, List, [], ◌∷◌, length, Option, Some, None, Result, Ok, Err, if◌then◌else◌}
+use Rattle.std.specs.Prelude.{◌≡◌, ℕ, zero, suc, Bool, true, false, List, [], ◌∷◌, length, Option, Some, None, is_some, Result, Ok, Err, if◌then◌else◌}
 use Rattle.kom_parse.specs.Lexemes.{Lexeme}
 use Rattle.kom_parse.specs.declared.stop.Stop.{Stop}
 use Rattle.kom_parse.specs.declared.stop.Stop.TheVariants.{Refused}
@@ -57,6 +57,10 @@ want accept = λ ts. taken (accept (first ts)) ts
 -- takes the next token, if it passes the test, and says whether it did
 unfoldable pub eat_if : (Option Lexeme → Bool) → Parser Bool
 eat_if test = λ ts. Read (test (first ts)) (if test (first ts) then rest ts else ts)
+
+-- takes the next token, if it is one of those that may come, and says which
+unfoldable pub may : {A : Type 0} → (Option Lexeme → Option A) → Parser (Option A)
+may accept = λ ts. Read (accept (first ts)) (if is_some (accept (first ts)) then rest ts else ts)
 
 -- turns from a state to the next, until one says that it is the last
 abbrev pub turns_from : {A : Type 0} → (A → Parser (Option A)) → (A → Parser A) → A → Option A → Parser A

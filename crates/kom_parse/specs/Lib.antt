@@ -2,3 +2,4 @@ pub mod Lexemes
 pub mod Input
 pub mod Rules
 pub mod Spelled
+pub mod Answers

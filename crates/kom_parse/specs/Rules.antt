@@ -1,5 +1,5 @@
 -- The rules of one token, and lists and rows of what a rule reads.
-use Rattle.std.specs.Prelude.{ℕ, pos, Bool, true, false, ◌&&◌, List, [], ◌∷◌, ◌++◌, Option, Some, None, is_some, codes, bytes_eq, if◌then◌else◌}
+use Rattle.std.specs.Prelude.{ℕ, pos, Bool, true, false, ◌&&◌, List, [], ◌∷◌, ◌++◌, Option, Some, None, is_some, codes, bytes_eq, option_and_then, if◌then◌else◌}
 use Rattle.kom_text.specs.declared.token.TokenKind.{TokenKind}
 use Rattle.kom_text.specs.declared.token.TokenKind.TheVariants.{Word, Number, Sign}
 use Rattle.kom_text.specs.Numbers.{decimal}
@@ -7,7 +7,7 @@ use Rattle.kom_system.specs.declared.parts.Spot.{Spot}
 use Rattle.kom_parse.specs.declared.numeral.Numeral.{Numeral}
 use Rattle.kom_parse.specs.declared.numeral.WordAt.{WordAt}
 use Rattle.kom_parse.specs.Lexemes.{Lexeme}
-use Rattle.kom_parse.specs.Input.{Parser, ◌>>=◌, pure, by_next, want, eat_if, loop}
+use Rattle.kom_parse.specs.Input.{Parser, ◌>>=◌, ◌>>◌, pure, by_next, want, eat_if, loop}
 
 abbrev pub is_kind : TokenKind → TokenKind → Bool
 is_kind Word Word = true
@@ -62,30 +62,55 @@ number = want number_in
 unfoldable pub eat : TokenKind → List ℕ → Parser Bool
 eat kind bytes = eat_if (is_exactly kind bytes)
 
--- ---- lists with commas between their items, up to a closing parenthesis
+-- what stands behind the first of these words that equals the bytes
+abbrev pub by_bytes : {A : Type 0} → List ℕ → List (List ℕ × A) → Option A
+by_bytes bytes [] = None
+by_bytes bytes (x ∷ xs) = if bytes_eq bytes x.0 then Some x.1 else by_bytes bytes xs
+
+-- what the next token stands for, where it is one of these words
+abbrev pub word_among : {A : Type 0} → List (List ℕ × A) → Option Lexeme → Option A
+word_among words o = option_and_then (λ (n : Spot). by_bytes n.name words) (name_in any o)
+
+-- ---- items with a token between them
+
+abbrev pub onto : {A : Type 0} → List A → A → List A
+onto xs x = xs ++ x ∷ []
+
+abbrev pub more_by : {A : Type 0} → Parser A → List A → Bool → Parser (Option (List A))
+more_by item xs true = item >>= (λ x. pure (Some (onto xs x)))
+more_by item xs false = pure None
+
+-- one more item, if the token between comes
+unfoldable pub more : {A : Type 0} → (Option Lexeme → Bool) → Parser A → List A → Parser (Option (List A))
+more between item xs = eat_if between >>= more_by item xs
+
+-- ---- lists with commas between their items, in parentheses
 
 abbrev pub closes : Option Lexeme → Bool
 closes o = is_exactly Sign (codes ")") o
 
-abbrev pub more_by : {A : Type 0} → Parser A → List A → Bool → Parser (Option (List A))
-more_by item xs true = item >>= (λ x. pure (Some (xs ++ x ∷ [])))
-more_by item xs false = pure None
-
-unfoldable pub more : {A : Type 0} → Parser A → List A → Parser (Option (List A))
-more item xs = eat Sign (codes ",") >>= more_by item xs
+abbrev pub is_comma : Option Lexeme → Bool
+is_comma o = is_exactly Sign (codes ",") o
 
 abbrev pub list_by : {A : Type 0} → Parser A → Bool → Parser (List A)
 list_by item true = pure []
-list_by item false = item >>= (λ x. loop (more item) (x ∷ []))
+list_by item false = item >>= (λ x. loop (more is_comma item) (x ∷ []))
 
 unfoldable pub list : {A : Type 0} → Parser A → Parser (List A)
 list item = by_next (λ o. list_by item (closes o))
 
--- ---- items in a row, up to what ends it
+unfoldable pub in_parens : {A : Type 0} → Parser A → Parser (List A)
+in_parens item = do
+  exactly Sign (codes "(")
+  xs ← list item
+  exactly Sign (codes ")")
+  pure xs
 
-abbrev pub row_by : {A : Type 0} → Parser A → List A → Bool → Parser (Option (List A))
-row_by item xs true = pure None
-row_by item xs false = item >>= (λ x. pure (Some (xs ++ x ∷ [])))
+-- ---- items in a row, up to what ends it: each is added to what the earlier ones made
 
-unfoldable pub row_turn : {A : Type 0} → (Option Lexeme → Bool) → Parser A → List A → Parser (Option (List A))
-row_turn ends item xs = by_next (λ o. row_by item xs (ends o))
+abbrev pub row_by : {A S : Type 0} → Parser A → (S → A → S) → S → Bool → Parser (Option S)
+row_by item add s true = pure None
+row_by item add s false = item >>= (λ x. pure (Some (add s x)))
+
+unfoldable pub row_turn : {A S : Type 0} → (Option Lexeme → Bool) → Parser A → (S → A → S) → S → Parser (Option S)
+row_turn ends item add s = by_next (λ o. row_by item add s (ends o))

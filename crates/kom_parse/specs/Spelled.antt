@@ -15,6 +15,10 @@ pub data SpellsList {A : Type 0} (Spells : List Lexeme → A → Type 0) : List 
   empty : SpellsList Spells [] []
   items : {t ts : List Lexeme} {x : A} {xs : List A} → Spells t x → SpellsMore Spells ts xs → SpellsList Spells (t ++ ts) (x ∷ xs)
 
+-- a list in parentheses
+pub data SpellsParens {A : Type 0} (Spells : List Lexeme → A → Type 0) : List Lexeme → List A → Type 0 where
+  parens : (a b : ℕ) {t : List Lexeme} {xs : List A} → SpellsList Spells t xs → SpellsParens Spells (sign_lexeme (codes "(") a ∷ (t ++ sign_lexeme (codes ")") b ∷ [])) xs
+
 -- items in a row, with nothing between them
 pub data SpellsRow {A : Type 0} (Spells : List Lexeme → A → Type 0) : List Lexeme → List A → Type 0 where
   end : SpellsRow Spells [] []

@@ -1,4 +1,4 @@
-use Rattle.std.proofs.Common.{◌≡◌, ◌≤◌, ◌<◌, ◌+◌, ◌-◌, ◌*◌, ℕ}
+use Rattle.std.proofs.Common.{◌≡◌, ◌≤◌, ◌+◌, ◌-◌, ◌*◌}
 use Rattle.kom_parse.specs.Input.{loop}
 use Rattle.kom_exprs.specs.Reading as spec
 use Rattle.kom_exprs.proofs.expr.+expr.Given as goal

@@ -1,0 +1,5 @@
+pub mod KeywordSteps
+pub mod StmtReads
+pub mod StmtSteps
+pub mod StmtWhole
+pub mod Exact
