@@ -7,8 +7,8 @@ use Rattle.kompics.specs.Small.Records.{History, IsSimulation, IsFinished, is_re
 use Rattle.kompics.specs.Small.Traces.{is_finished, is_empty}
 
 -- Start alone, where nothing is to be released
-pub start_only : (S : System) (vars sent : List ℤ) (R0 R1 R : History) → vars ≡ S.vars → sent ≡ [] → R0 ≡ [] → R1 ≡ entry.Took 0 0 item.Start ∷ R0 → R ≡ entry.Did 0 0 0 true vars sent ∷ R1 → R ≡ entry.Did 0 0 0 true S.vars [] ∷ (entry.Took 0 0 item.Start ∷ [])
-start_only S vars sent R0 R1 R v s e0 e1 e = cc
+pub start_only : (S : System) (vars sent : List ℤ) (before taken R : History) → vars ≡ S.vars → sent ≡ [] → before ≡ [] → taken ≡ entry.Took 0 0 item.Start ∷ before → R ≡ entry.Did 0 0 0 true vars sent ∷ taken → R ≡ entry.Did 0 0 0 true S.vars [] ∷ (entry.Took 0 0 item.Start ∷ [])
+start_only S vars sent before taken R v s e0 e1 e = cc
 
 pub start_runs : (S : System) (R : History) → R ≡ entry.Did 0 0 0 true S.vars [] ∷ (entry.Took 0 0 item.Start ∷ []) → IsSimulation S [] R
 start_runs S R e = subst (IsSimulation S []) (sym e) record {
