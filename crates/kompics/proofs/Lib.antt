@@ -1,5 +1,9 @@
 mod Lexing
+mod Plans
+mod Reactions
 mod Reading
 mod Runs
+mod Scenarios
+mod Tallies
 mod Texts
 mod Words
