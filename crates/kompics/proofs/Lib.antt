@@ -1,9 +1,2 @@
-mod Lexing
-mod Plans
-mod Reactions
-mod Reading
-mod Runs
-mod Scenarios
-mod Tallies
-mod Texts
+mod SmallLaws
 mod Words

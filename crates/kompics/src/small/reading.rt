@@ -84,6 +84,7 @@ fn is_number(token: &[u8]) -> bool
     }
 }
 
+/// The number that the tokens begin with, at most 2^63 - 1, and the tokens after it.
 pub fn number_at<'t, 'a>(tokens: &'t [&'a [u8]]) -> Option<(u64, &'t [&'a [u8]])>
     ensures read { read result ≡ number_at (seen tokens.now) }
     ensures small { IfSome result (λ r. r.0 ≤ greatest) }
@@ -102,6 +103,7 @@ pub fn number_at<'t, 'a>(tokens: &'t [&'a [u8]]) -> Option<(u64, &'t [&'a [u8]])
     }
 }
 
+/// The number that the tokens begin with, or that follows a minus sign, and the tokens after it.
 pub fn int_at<'t, 'a>(tokens: &'t [&'a [u8]]) -> Option<(i64, &'t [&'a [u8]])>
     ensures { read result ≡ int_at (seen tokens.now) }
 {
@@ -192,7 +194,7 @@ fn send_at<'t, 'a>(names: &Names, tokens: &'t [&'a [u8]]) -> Option<(Statement, 
 }
 
 /// The statements up to a `}`, at most 32.
-#[tactic(auto, using(crate::proofs::Reading::no_front))]
+#[tactic(auto, using(crate::proofs::SmallLaws::Reading::no_front))]
 pub fn block_at<'t, 'a>(
     alloc: Global,
     names: &Names,

@@ -39,6 +39,7 @@ impl Model for Plan {
 }
 
 impl Plan {
+    /// No events.
     pub fn new(alloc: Global) -> Plan
         ensures { result ≡ [] }
     {
@@ -47,12 +48,14 @@ impl Plan {
         }
     }
 
+    /// Whether there is no room for one more event.
     pub fn is_full(&self) -> bool
         ensures { IsTrue result ↔ (most_events ≤ length self.now) }
     {
         self.raises.len() >= MOST_EVENTS
     }
 
+    /// Adds an event at the end.
     pub fn push(&mut self, raise: Raise) -> Result<(), AllocError>
         requires { length self.old < most_events }
         ensures { OnOk result (self.new ≡ self.old ++ raise ∷ []) }
@@ -61,6 +64,7 @@ impl Plan {
         Ok(())
     }
 
+    /// The events, in the order of the text.
     pub fn raises(&self) -> &[Raise]
         ensures raises { result.now ≡ self.now }
         ensures few { length self.now ≤ most_events }

@@ -1,6 +1,6 @@
 use Rattle.std.proofs.Common.{ap, length, take, arith}
 use Rattle.std.proofs.lemmas.List.{length-take}
-use Rattle.kompics.proofs.Plans.{length-of_time}
+use Rattle.kompics.proofs.SmallLaws.Plans.{length-of_time}
 use Rattle.kompics.proofs.small.machine.batch.Goals as goal
 
 pub returns-clause-few : goal.returns-clause-few

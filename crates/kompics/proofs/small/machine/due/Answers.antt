@@ -1,5 +1,5 @@
 use Rattle.std.proofs.Common.{◌∙◌, Some, ap, arith, pos}
-use Rattle.kompics.proofs.Plans.{due_more, due_same}
+use Rattle.kompics.proofs.SmallLaws.Plans.{due_more, due_same}
 use Rattle.kompics.proofs.small.machine.due.Goals as goal
 use Rattle.kompics.proofs.small.machine.due.Goals.{then-from, else-from}
 

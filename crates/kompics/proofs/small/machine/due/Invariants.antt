@@ -1,5 +1,5 @@
 use Rattle.std.proofs.Common.{take}
-use Rattle.kompics.proofs.Plans.{IsLeast}
+use Rattle.kompics.proofs.SmallLaws.Plans.{IsLeast}
 use Rattle.kompics.specs.Small.Runs.{remaining}
 use Rattle.kompics.proofs.small.machine.due.Given as goal
 

@@ -1,7 +1,7 @@
 use Rattle.std.proofs.Common.{◌<◌, ◌+◌, ◌∙◌, ◌∷◌, ap, length, refl, sym, arith}
 use Rattle.std.specs.Prelude.{slice_get}
 use Rattle.kompics.specs.declared.small.record.Entry.TheVariants as entry
-use Rattle.kompics.proofs.Runs.{arrived, moved}
+use Rattle.kompics.proofs.SmallLaws.Runs.{arrived, moved}
 use Rattle.kompics.proofs.small.machine.release.Goals as goal
 
 pub loop-i-init : goal.loop-i-init

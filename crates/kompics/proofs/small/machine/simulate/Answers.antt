@@ -1,8 +1,8 @@
 use Rattle.std.proofs.Common.{◌≡◌, ◌+◌, ◌∙◌, false, ap, length, refl, subst, arith}
 use Rattle.kompics.specs.Small.Records.{IsSimulation}
 use Rattle.kompics.specs.Small.Systems.{Plan}
-use Rattle.kompics.proofs.Plans.{due_from}
-use Rattle.kompics.proofs.Runs.{begun, ended}
+use Rattle.kompics.proofs.SmallLaws.Plans.{due_from}
+use Rattle.kompics.proofs.SmallLaws.Runs.{begun, ended}
 use Rattle.kompics.proofs.small.machine.simulate.Goals as goal
 
 pub loop-time-init : goal.loop-time-init

@@ -1,5 +1,5 @@
 use Rattle.kompics.specs.Small.Reading.{seen, held}
-use Rattle.kompics.proofs.Reading.{block_few}
+use Rattle.kompics.proofs.SmallLaws.Reading.{block_few}
 use Rattle.kompics.proofs.small.reading.block_at.Goals as goal
 
 pub returns-in-Some-clause-few : goal.returns-in-Some-clause-few

@@ -1,5 +1,5 @@
 use Rattle.std.proofs.Common.{rules}
-use Rattle.kompics.proofs.Scenarios.{raise_counted, raise_shorter}
+use Rattle.kompics.proofs.SmallLaws.Scenarios.{raise_counted, raise_shorter}
 use Rattle.kompics.proofs.small.scenario.add_raise.Goals as goal
 
 pub overflow_sub-result : goal.overflow_sub-result

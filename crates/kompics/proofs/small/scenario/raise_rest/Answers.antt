@@ -1,7 +1,7 @@
 use Rattle.std.proofs.Common.{◌≡◌, ◌∙◌, Some, ap, arith, to_z, of_z, w64}
 use Rattle.std.proofs.lemmas.Int.{to_z-of_z}
 use Rattle.kompics.specs.Small.Reading.{seen, after, raise_middle, raise_tail, raised}
-use Rattle.kompics.proofs.Scenarios.{raise_rest_is}
+use Rattle.kompics.proofs.SmallLaws.Scenarios.{raise_rest_is}
 use Rattle.kompics.proofs.small.scenario.raise_rest.Goals as goal
 
 pub returns : goal.returns

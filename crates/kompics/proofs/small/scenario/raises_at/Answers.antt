@@ -1,6 +1,6 @@
 use Rattle.std.proofs.Common.{◌∙◌, ap, sym, arith}
 use Rattle.kompics.specs.Small.Reading.{seen}
-use Rattle.kompics.proofs.Scenarios.{all_parts_read, going_on, none_read, none_so_far, part_read}
+use Rattle.kompics.proofs.SmallLaws.Scenarios.{all_parts_read, going_on, none_read, none_so_far, part_read}
 use Rattle.kompics.proofs.small.scenario.raises_at.Goals as goal
 
 pub loop-at-init : goal.loop-at-init

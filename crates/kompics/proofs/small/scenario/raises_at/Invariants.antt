@@ -1,6 +1,6 @@
 use Rattle.std.proofs.Common.{◌≡◌, ◌≤◌, ◌-◌, drop, length}
 use Rattle.kompics.specs.Small.Reading.{seen, raises_at}
-use Rattle.kompics.proofs.Scenarios.{going_on}
+use Rattle.kompics.proofs.SmallLaws.Scenarios.{going_on}
 use Rattle.kompics.proofs.small.scenario.raises_at.Given as goal
 
 -- the events so far, and those of the rest

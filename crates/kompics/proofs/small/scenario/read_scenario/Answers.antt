@@ -1,6 +1,6 @@
 use Rattle.std.proofs.Common.{◌∙◌, sym}
 use Rattle.kompics.specs.Small.Reading.{seen}
-use Rattle.kompics.proofs.Scenarios.{plan_ok}
+use Rattle.kompics.proofs.SmallLaws.Scenarios.{plan_ok}
 use Rattle.kompics.proofs.small.scenario.read_scenario.Goals as goal
 
 pub returns : goal.returns

@@ -1,6 +1,6 @@
 use Rattle.std.proofs.Common.{ap, arith}
 use Rattle.kompics.specs.Small.Traces.{outs}
-use Rattle.kompics.proofs.Tallies.{out_fits}
+use Rattle.kompics.proofs.SmallLaws.Tallies.{out_fits}
 use Rattle.kompics.proofs.small.tally.tally_of.Goals as goal
 
 pub overflow_add-tally-in-Did-2 : goal.overflow_add-tally-in-Did-2

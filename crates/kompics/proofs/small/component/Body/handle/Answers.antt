@@ -1,6 +1,6 @@
 use Rattle.std.proofs.Common.{arith}
 use Rattle.std.proofs.lemmas.List.{drop_all}
-use Rattle.kompics.proofs.Reactions.{sent_few}
+use Rattle.kompics.proofs.SmallLaws.Reactions.{sent_few}
 use Rattle.kompics.proofs.small.component.Body.handle.Goals as goal
 
 pub returns-clause-few : goal.returns-clause-few

@@ -15,9 +15,9 @@ use Rattle.kompics.specs.Small.Reactions.{left, reaction}
 use Rattle.kompics.specs.Small.Records.{History, IsSimulation, IsFinished, entered, first, hand, is_active, is_later, is_ready, is_started, next, numbered, pending, received, waiting, batch}
 use Rattle.kompics.specs.Small.Runs.{Handles, IsDue, IsIdle, of_time, remaining}
 use Rattle.kompics.specs.Small.Traces.{is_finished, is_empty}
-use Rattle.kompics.proofs.Plans.{due_from, has_event, is_at, is_from, length-filter, parts, time_kept}
-use Rattle.kompics.proofs.Reactions.{keeps_active}
-use Rattle.kompics.proofs.Texts.{there}
+use Rattle.kompics.proofs.SmallLaws.Plans.{due_from, has_event, is_at, is_from, length-filter, parts, time_kept}
+use Rattle.kompics.proofs.SmallLaws.Reactions.{keeps_active}
+use Rattle.kompics.proofs.SmallLaws.Texts.{there}
 
 -- a run of which each part is known
 abbrev run_of : History → Body → ℕ → Run

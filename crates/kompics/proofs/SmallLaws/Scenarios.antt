@@ -8,7 +8,7 @@ use Rattle.kompics.specs.declared.small.scenario.Raise.{Raise}
 use Rattle.kompics.specs.Small.Tokens.{tokens_of}
 use Rattle.kompics.specs.Small.Systems.{System, Plan, SpellsRaise, SpellsRaises, SpellsScenario, IsScenario, file_limit, is_name, latest, most_events, scenario_words}
 use Rattle.kompics.specs.Small.Reading.{Tokens, seen, after, number_at, int_at, raise_head, raise_middle, raise_tail, raised, raise_end, raise_value, raise_rest, after_time, raise_parts, raise_at, with_raise, raises_at, IsAdded, plan_at}
-use Rattle.kompics.proofs.Reading.{after_front, after_is, bind, guarded, if_ok, int_sound, int_whole, mapped, number_sound, number_whole, some_same, whole}
+use Rattle.kompics.proofs.SmallLaws.Reading.{after_front, after_is, bind, guarded, if_ok, int_sound, int_whole, mapped, number_sound, number_whole, some_same, whole}
 
 -- an event with the tokens after it
 abbrev pub paired : Raise → Tokens → Raise × Tokens
