@@ -1,5 +1,2 @@
-mod Lexing
-mod Reading
-mod Runs
-mod Texts
+mod SmallLaws
 mod Words

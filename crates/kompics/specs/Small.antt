@@ -2,6 +2,8 @@
 pub mod Tokens
 pub mod Systems
 pub mod Reading
+pub mod Reactions
 pub mod Records
+pub mod Runs
 pub mod Tallies
 pub mod Traces

@@ -6,7 +6,12 @@ use std::test::Fail;
 const SYSTEM: &str = "system 1;\ncomponent Main { }\nroot Main();\n";
 
 const SINGLE: &str =
-    "system 1;\nevent N(n);\nport P { plus N; minus N; }\ncomponent Main {\n  provides p : P;\n  var got = -5;\n  on N at p as h { got = it.n; trigger N(got) at p; }\n}\nroot Main();\n";
+    "system 1;\nevent N(n);\nport P { plus N; minus N; }\ncomponent Main {\n  provides p : P;\n  var got = 0;\n  on N at p as h { got = it.n; trigger N(got) at p; }\n}\nroot Main();\n";
+
+const TWO_EVENTS: &str = "scenario 1; at 5 raise N(7) at p; at 5 raise N(-8) at p;";
+
+const TWO_HANDLINGS: &str =
+    "trace 1\n0 0 took 0 start\n1 0 did 0 done active 0\n2 0 moved 5\n  release 0 0 N 7\n  release 0 1 N -8\n3 0 took 0 event 0 minus 2.0 p outside N 7\n4 0 did 0 done active 7\n  trigger p N 7\n5 0 took 0 event 0 minus 2.1 p outside N -8\n6 0 did 0 done active -8\n  trigger p N -8\nend quiet\ntook 3 did 3 moved 1 queued 0 out 2\n";
 
 const SCENARIO: &str = "scenario 1;";
 
@@ -49,7 +54,7 @@ fn sim(
     let fails = [outside.read_fails].to_vec(alloc)?;
     let mut shelf = MemoryShelf::make(alloc, files, outside.read.max(1), fails)?;
     let fails = [outside.write_fails].to_vec(alloc)?;
-    let mut sink = MemorySink::make(alloc, 65536, outside.write.max(1), fails)?;
+    let mut sink = MemorySink::make(alloc, 262144, outside.write.max(1), fails)?;
     let mut list = Words::new(alloc);
     for word in words {
         list.push(*word)?;
@@ -59,39 +64,44 @@ fn sim(
 }
 
 #[test]
-fn writes_the_trace_of_an_empty_component(rt: HostRuntime) -> Result<(), Fail> {
-    for read in [1, 4096] {
-        for write in [1, 4096] {
+fn writes_traces_in_pieces_of_any_length(rt: HostRuntime) -> Result<(), Fail> {
+    for (system, scenario, trace) in [
+        (SYSTEM, SCENARIO, TRACE),
+        (SINGLE, TWO_EVENTS, TWO_HANDLINGS),
+    ] {
+        for (read, write) in [(1, 1), (1, 4096), (4096, 1), (4096, 4096)] {
             let outside = Outside {
                 read,
                 write,
                 ..PLAIN
             };
-            let words = ["sim", "s", "z"];
             let (status, out) = sim(
                 rt.alloc(),
-                &words,
-                SYSTEM.as_bytes(),
-                SCENARIO.as_bytes(),
+                &["sim", "s", "z"],
+                system.as_bytes(),
+                scenario.as_bytes(),
                 &outside,
             )?;
             assert_eq!(rt; status, 0, "{read} {write}");
-            assert_eq!(rt; out.as_slice(), TRACE.as_bytes(), "{read} {write}");
+            assert_eq!(rt; out.as_slice(), trace.as_bytes(), "{read} {write}");
         }
     }
     Ok(())
 }
 
 #[test]
-fn writes_the_trace_of_a_component_without_events(rt: HostRuntime) -> Result<(), Fail> {
+fn moves_from_time_to_time(rt: HostRuntime) -> Result<(), Fail> {
+    let system =
+        "system 1; event N(n); port P { plus N; minus N; } component Main { provides p : P; var got = -5; on N at p as h { trigger N(got) at p; got = it.n; trigger N(3) at p; } } root Main();";
+    let scenario =
+        "scenario 1; at 1000000000 raise N(-9223372036854775807) at p; at 0 raise N(1) at p; at 7 raise N(2) at p; at 0 raise N(-3) at p;";
     let trace =
-        "trace 1\n0 0 took 0 start\n1 0 did 0 done active -5\nend quiet\ntook 1 did 1 moved 0 queued 0 out 0\n";
-    let words = ["sim", "s", "z"];
+        "trace 1\n0 0 took 0 start\n1 0 did 0 done active -5\n2 0 moved 0\n  release 0 0 N 1\n  release 0 1 N -3\n3 0 took 0 event 0 minus 2.0 p outside N 1\n4 0 did 0 done active 1\n  trigger p N -5\n  trigger p N 3\n5 0 took 0 event 0 minus 2.1 p outside N -3\n6 0 did 0 done active -3\n  trigger p N 1\n  trigger p N 3\n7 0 moved 7\n  release 0 0 N 2\n8 0 took 0 event 0 minus 7.0 p outside N 2\n9 0 did 0 done active 2\n  trigger p N -3\n  trigger p N 3\n10 0 moved 1000000000\n  release 0 0 N -9223372036854775807\n11 0 took 0 event 0 minus 10.0 p outside N -9223372036854775807\n12 0 did 0 done active -9223372036854775807\n  trigger p N 2\n  trigger p N 3\nend quiet\ntook 5 did 5 moved 3 queued 0 out 8\n";
     let (status, out) = sim(
         rt.alloc(),
-        &words,
-        SINGLE.as_bytes(),
-        SCENARIO.as_bytes(),
+        &["sim", "s", "z"],
+        system.as_bytes(),
+        scenario.as_bytes(),
         &PLAIN,
     )?;
     assert_eq!(rt; status, 0);
@@ -100,46 +110,100 @@ fn writes_the_trace_of_a_component_without_events(rt: HostRuntime) -> Result<(),
 }
 
 #[test]
-fn answers_texts_and_words_that_are_no_run(rt: HostRuntime) -> Result<(), Fail> {
-    let slot = "system 1;\ncomponent Main { slot s; }\nroot Main();\n";
-    for (command, s, z, system, scenario, status, out) in [
-        ("sim", "s", "z", slot, SCENARIO, 1, NO_SYSTEM),
-        ("sim", "s", "z", "", SCENARIO, 1, NO_SYSTEM),
+fn refuses_what_is_not_small(rt: HostRuntime) -> Result<(), Fail> {
+    let slot =
+        "system 1;\nevent N(n);\nport P { plus N; minus N; }\ncomponent Main {\n  provides p : P;\n  var got = 0;\n  slot s;\n  on N at p as h { got = it.n; trigger N(got) at p; }\n}\nroot Main();\n";
+    for (system, scenario, line) in [
+        (slot, TWO_EVENTS, NO_SYSTEM),
+        ("", SCENARIO, NO_SYSTEM),
         (
-            "sim",
-            "s",
-            "z",
             "system 01; component M { } root M ( ) ;",
             SCENARIO,
-            1,
             NO_SYSTEM,
         ),
+        (SYSTEM, "scenario 1; at 0 rai", NO_SCENARIO),
+        (SYSTEM, "scenario 1; at 5 raise N(7) at p;", NO_SCENARIO),
+        (SINGLE, "", NO_SCENARIO),
+        (SINGLE, "scenario 01;", NO_SCENARIO),
+        (SINGLE, "scenario 1; seed 7;", NO_SCENARIO),
+        (SINGLE, "scenario 1; at 5 raise M(7) at p;", NO_SCENARIO),
+        (SINGLE, "scenario 1; at 5 raise N(7) at q;", NO_SCENARIO),
+        (SINGLE, "scenario 1; at 5 raise N() at p;", NO_SCENARIO),
+        (SINGLE, "scenario 1; at 5 raise N(7, 8) at p;", NO_SCENARIO),
+        (SINGLE, "scenario 1; at 5 raise N(index) at p;", NO_SCENARIO),
+        (SINGLE, "scenario 1; at 5 raise N(--7) at p;", NO_SCENARIO),
+        (SINGLE, "scenario 1; at -5 raise N(7) at p;", NO_SCENARIO),
         (
-            "sim",
-            "s",
-            "z",
-            SYSTEM,
-            "scenario 1; at 0 rai",
-            1,
+            SINGLE,
+            "scenario 1; at 1000000001 raise N(7) at p;",
             NO_SCENARIO,
         ),
-        ("sim", "s", "x", SYSTEM, SCENARIO, 5, ""),
-        ("sim", "x", "z", SYSTEM, SCENARIO, 5, ""),
-        ("run", "s", "z", SYSTEM, SCENARIO, 2, USAGE),
+        (
+            SINGLE,
+            "scenario 1; at 5 raise N(9223372036854775808) at p;",
+            NO_SCENARIO,
+        ),
+        (
+            SINGLE,
+            "scenario 1; at 5 raise N(7) at p; at 6",
+            NO_SCENARIO,
+        ),
     ] {
-        let (got, text) = sim(
+        let (status, text) = sim(
             rt.alloc(),
-            &[command, s, z],
+            &["sim", "s", "z"],
             system.as_bytes(),
             scenario.as_bytes(),
             &PLAIN,
         )?;
-        assert_eq!(rt; got, status, "{system}");
-        assert_eq!(rt; text.as_slice(), out.as_bytes(), "{system}");
+        assert_eq!(rt; status, 1, "{scenario}");
+        assert_eq!(rt; text.as_slice(), line.as_bytes(), "{scenario}");
     }
-    let (status, text) = sim(rt.alloc(), &["sim", "s"], b"", b"", &PLAIN)?;
-    assert_eq!(rt; status, 2);
-    assert_eq!(rt; text.as_slice(), USAGE.as_bytes());
+    Ok(())
+}
+
+#[test]
+fn takes_a_thousand_events(rt: HostRuntime) -> Result<(), Fail> {
+    let ends = [
+        (1000, 0, "took 1001 did 1001 moved 1 queued 0 out 1000\n"),
+        (1001, 1, NO_SCENARIO),
+    ];
+    for (events, status, end) in ends {
+        let mut scenario = SCENARIO.as_bytes().to_vec(rt.alloc())?;
+        for _ in 0..events {
+            scenario.extend_from_slice(b" at 5 raise N(7) at p;")?;
+        }
+        let (got, text) = sim(
+            rt.alloc(),
+            &["sim", "s", "z"],
+            SINGLE.as_bytes(),
+            scenario.as_slice(),
+            &PLAIN,
+        )?;
+        assert_eq!(rt; got, status, "{events}");
+        assert!(rt; text.as_slice().ends_with(end.as_bytes()), "{events}");
+    }
+    Ok(())
+}
+
+#[test]
+fn answers_words_and_names_that_are_no_run(rt: HostRuntime) -> Result<(), Fail> {
+    for (words, status, out) in [
+        (["sim", "s", "x"].as_slice(), 5, ""),
+        (["sim", "x", "z"].as_slice(), 5, ""),
+        (["run", "s", "z"].as_slice(), 2, USAGE),
+        (["sim", "s"].as_slice(), 2, USAGE),
+    ] {
+        let (got, text) = sim(
+            rt.alloc(),
+            words,
+            SYSTEM.as_bytes(),
+            SCENARIO.as_bytes(),
+            &PLAIN,
+        )?;
+        assert_eq!(rt; got, status);
+        assert_eq!(rt; text.as_slice(), out.as_bytes());
+    }
     Ok(())
 }
 
@@ -181,26 +245,31 @@ fn names_each_fault_of_the_outside(rt: HostRuntime) -> Result<(), Fail> {
         let (status, text) = sim(
             rt.alloc(),
             &words,
-            SYSTEM.as_bytes(),
-            SCENARIO.as_bytes(),
+            SINGLE.as_bytes(),
+            TWO_EVENTS.as_bytes(),
             &outside,
         )?;
         assert_eq!(rt; status, 5, "{read_fails}");
         assert_eq!(rt; text.len(), 0, "{read_fails}");
     }
-    let outside = Outside {
-        write: 10,
-        write_fails: 2,
-        ..PLAIN
-    };
-    let (status, text) = sim(
-        rt.alloc(),
-        &words,
-        SYSTEM.as_bytes(),
-        SCENARIO.as_bytes(),
-        &outside,
-    )?;
-    assert_eq!(rt; status, 6);
-    assert_eq!(rt; text.as_slice(), &TRACE.as_bytes()[..20]);
+    for (system, scenario, trace) in [
+        (SYSTEM, SCENARIO, TRACE),
+        (SINGLE, TWO_EVENTS, TWO_HANDLINGS),
+    ] {
+        let outside = Outside {
+            write: 10,
+            write_fails: 2,
+            ..PLAIN
+        };
+        let (status, text) = sim(
+            rt.alloc(),
+            &words,
+            system.as_bytes(),
+            scenario.as_bytes(),
+            &outside,
+        )?;
+        assert_eq!(rt; status, 6);
+        assert_eq!(rt; text.as_slice(), &trace.as_bytes()[..20]);
+    }
     Ok(())
 }

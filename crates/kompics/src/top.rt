@@ -6,7 +6,7 @@ ghost use Rattle.kompics.specs.Top.{IsNoCommand, sim, IsTraced, IsRefused, IsUsa
 
 use crate::small::machine::simulate;
 use crate::small::record::Record;
-use crate::small::scenario::is_scenario;
+use crate::small::scenario::{Plan, read_scenario};
 use crate::small::system::{System, read_system};
 use crate::small::text::Text;
 use crate::small::trace::trace_text;
@@ -140,18 +140,18 @@ fn answer_scenario<S: Shelf>(alloc: Global, shelf: &mut S, name: &str, system: &
         TextRead::ReadFault => return Answer::ShelfFault,
         TextRead::Memory => return Answer::Memory,
     };
-    match is_scenario(alloc, text.as_slice(), system) {
-        Ok(true) => run(alloc, system),
-        Ok(false) => Answer::NoScenario,
+    match read_scenario(alloc, text.as_slice(), system) {
+        Ok(Some(plan)) => run(alloc, system, &plan),
+        Ok(None) => Answer::NoScenario,
         Err(_) => Answer::Memory,
     }
 }
 
-/// Simulates the system without events.
-fn run(alloc: Global, system: &System) -> Answer
-    ensures { IsSimulated result system.now [] }
+/// Simulates the system under the plan.
+fn run(alloc: Global, system: &System, plan: &Plan) -> Answer
+    ensures { IsSimulated result system.now plan.now }
 {
-    let Ok(run) = simulate(alloc, system) else {
+    let Ok(run) = simulate(alloc, system, plan) else {
         return Answer::Memory;
     };
     match trace_text(alloc, system, &run) {

@@ -1,6 +1,6 @@
 -- How tokens are read, one form after another: what was read and the tokens after it. Laws in
 -- proofs/ say that this is what the tokens spell, and all that they spell.
-use Rattle.std.specs.Prelude.{◌&&◌, ℕ, zero, suc, ℤ, pos, Bool, true, false, List, [], ◌∷◌, Option, Some, None, if◌then◌else◌, nat_le, slice_get, unwrap_or, codes, map, ◌++◌, Vec}
+use Rattle.std.specs.Prelude.{◌≡◌, ◌<◌, ◌≤◌, ◌⊎◌, length, drop, ◌&&◌, ℕ, zero, suc, ℤ, pos, Bool, true, false, List, [], ◌∷◌, Option, Some, None, if◌then◌else◌, nat_le, slice_get, unwrap_or, codes, map, ◌++◌, Vec}
 use Rattle.kompics.specs.declared.small.reading.Names.{Names as Held}
 use Rattle.std.specs.Borrow.{Bor}
 use Rattle.std.specs.Option.{option_map, option_and_then}
@@ -10,7 +10,8 @@ use Rattle.kompics.specs.declared.small.system.Atom.TheVariants as atom
 use Rattle.kompics.specs.declared.small.system.Statement.{Statement}
 use Rattle.kompics.specs.declared.small.system.Statement.TheVariants as statement
 use Rattle.kompics.specs.Small.Tokens.{number_of, greatest}
-use Rattle.kompics.specs.Small.Systems.{Names, System, is_number, negative, attribute, event_words, port_words, component_words, middle, closing, are_names}
+use Rattle.kompics.specs.declared.small.scenario.Raise.{Raise}
+use Rattle.kompics.specs.Small.Systems.{Names, System, Plan, is_name, latest, most_events, scenario_words, is_number, negative, attribute, event_words, port_words, component_words, middle, closing, are_names}
 
 abbrev pub Tokens : Type 0
 Tokens = List (List ℕ)
@@ -163,6 +164,59 @@ single_with N ts = option_and_then (after_head N) (head_at N ts)
 -- the system of a component with a port, a variable and a handler
 abbrev pub single_at : Tokens → Option System
 single_at ts = if are_names (names_of ts) then single_with (names_of ts) ts else None
+
+abbrev pub raise_head : Tokens
+raise_head = codes "at" ∷ []
+
+abbrev pub raise_middle : System → Tokens
+raise_middle S = codes "raise" ∷ S.event ∷ codes "(" ∷ []
+
+abbrev pub raise_tail : System → Tokens
+raise_tail S = codes ")" ∷ codes "at" ∷ S.port ∷ codes ";" ∷ []
+
+abbrev pub raised : ℕ → ℤ → Tokens → Raise × Tokens
+raised t z ts = (record { time = t; value = z }, ts)
+
+-- the end of a part, from its value on
+abbrev pub raise_end : System → ℕ → ℤ × Tokens → Option (Raise × Tokens)
+raise_end S t i = option_map (raised t i.0) (after (raise_tail S) i.1)
+
+abbrev pub raise_value : System → ℕ → Tokens → Option (Raise × Tokens)
+raise_value S t ts = option_and_then (raise_end S t) (int_at ts)
+
+-- what follows the time of a part
+abbrev pub raise_rest : System → ℕ → Tokens → Option (Raise × Tokens)
+raise_rest S t ts = option_and_then (raise_value S t) (after (raise_middle S) ts)
+
+abbrev pub after_time : System → ℕ × Tokens → Option (Raise × Tokens)
+after_time S n = if nat_le n.0 latest then raise_rest S n.0 n.1 else None
+
+abbrev pub raise_parts : System → Tokens → Option (Raise × Tokens)
+raise_parts S ts = option_and_then (λ r. option_and_then (after_time S) (number_at r)) (after raise_head ts)
+
+-- the event of a part
+abbrev pub raise_at : System → Tokens → Option (Raise × Tokens)
+raise_at S ts = if is_name S.event then raise_parts S ts else None
+
+abbrev pub with_raise : Raise → Plan → Plan
+with_raise r Z = r ∷ Z
+
+-- the events of all parts, at most as many
+unfoldable pub raises_at : ℕ → System → Tokens → Option Plan
+raises_at zero S [] = Some []
+raises_at zero S (t ∷ ts) = None
+raises_at (suc k) S [] = Some []
+raises_at (suc k) S (t ∷ ts) = option_and_then (λ r. option_map (with_raise r.0) (raises_at k S r.1)) (raise_at S (t ∷ ts))
+
+-- a part of so many tokens was read, or there is none or no room for its event
+abbrev pub IsAdded : System → Tokens → Plan → Plan → Option ℕ → Type 0
+IsAdded S ts before after None = (most_events ≤ length before) ⊎ (raise_at S ts ≡ None)
+IsAdded S ts before after (Some n) =
+    (0 < n) × (n ≤ length ts) × (length before < most_events) × ((r : Raise) × (raise_at S ts ≡ Some (r, drop n ts)) × (after ≡ before ++ r ∷ []))
+
+-- the plan of a scenario
+abbrev pub plan_at : System → Tokens → Option Plan
+plan_at S ts = option_and_then (raises_at most_events S) (after scenario_words ts)
 
 -- a slice of tokens, seen as their bytes
 abbrev pub seen : List (Bor (List ℕ)) → Tokens

@@ -7,7 +7,9 @@ use Rattle.kompics.specs.declared.small.record.Item.{Item}
 use Rattle.kompics.specs.declared.small.record.Item.TheVariants as item
 use Rattle.kompics.specs.declared.small.record.Entry.{Entry}
 use Rattle.kompics.specs.declared.small.record.Entry.TheVariants as entry
+use Rattle.kompics.specs.declared.small.component.Body.{Body}
 use Rattle.kompics.specs.Small.Systems.{System, Plan}
+use Rattle.kompics.specs.Small.Reactions.{left, reaction}
 
 abbrev pub History : Type 0
 History = List Entry
@@ -38,6 +40,9 @@ vars_at S [] = S.vars
 vars_at S (entry.Took w c item ∷ P) = vars_at S P
 vars_at S (entry.Did w c took active vars sent ∷ P) = vars
 vars_at S (entry.Moved w t released ∷ P) = vars_at S P
+
+abbrev pub body_at : System → History → Body
+body_at S P = record { active = is_active P; vars = vars_at S P }
 
 -- Start was taken
 abbrev pub is_started : History → Bool
@@ -98,14 +103,6 @@ pending Z P = filter (λ r. is_later P r.time) Z
 abbrev pub batch : Plan → History → ℕ → List ℤ
 batch Z P t = map (λ r. r.value) (filter (λ r. r.time == t) (pending Z P))
 
--- what the handling of an item leaves: Start makes the component active
-pub record Reaction : Type 0 where
-  pub vars : List ℤ
-  pub sent : List ℤ
-
-abbrev pub reaction : System → List ℤ → Item → Reaction
-reaction S vars i = record { vars = vars; sent = [] }
-
 -- a Took: the component is ready and takes its next item
 pub record MayTake (P : History) (c : ℕ) (i : Item) : Type 0 where
   pub component : c ≡ 0
@@ -119,9 +116,7 @@ pub record MayEnd (S : System) (P : History) (w c took : ℕ) (active : Bool) (v
   pub took_is : took ≡ job.took
   pub worker : w ≡ job.w
   pub component : c ≡ job.c
-  pub active_is : active ≡ true
-  pub vars_are : vars ≡ (reaction S (vars_at S P) job.item).vars
-  pub sent_are : sent ≡ (reaction S (vars_at S P) job.item).sent
+  pub outcome : left (record { active = active; vars = vars }) sent ≡ reaction S (body_at S P) job.item
 
 -- a Moved: nothing is in hand or ready, and the time is the least of what is pending
 pub record MayMove (Z : Plan) (P : History) (t : ℕ) (released : List ℤ) : Type 0 where

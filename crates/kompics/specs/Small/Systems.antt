@@ -2,6 +2,7 @@
 use Rattle.std.specs.Prelude.{◌≡◌, ◌≤◌, ◌⊎◌, ◌&&◌, ◌||◌, ◌++◌, ℕ, zero, suc, ℤ, pos, negsuc, Bool, true, false, not, IsTrue, List, [], ◌∷◌, Some, length, codes}
 use Rattle.std.specs.Char.{is_ascii_digit}
 use Rattle.std.specs.Str.{bytes_eq}
+use Rattle.kompics.specs.declared.small.scenario.Raise.{Raise}
 use Rattle.kompics.specs.declared.small.system.Atom.{Atom}
 use Rattle.kompics.specs.declared.small.system.Atom.TheVariants as atom
 use Rattle.kompics.specs.declared.small.system.Statement.{Statement}
@@ -20,12 +21,7 @@ pub record System : Type 0 where
 abbrev pub nothing : System
 nothing = record { port = []; event = []; vars = []; block = [] }
 
--- an event of the scenario, with its time
-pub record Raise : Type 0 where
-  pub time : ℕ
-  pub value : ℤ
-
--- the events of the scenario, in order of the text
+-- the events of the scenario with their times, in order of the text
 abbrev pub Plan : Type 0
 Plan = List Raise
 
@@ -154,13 +150,40 @@ SpellsEmpty tokens system = (name : List ℕ) × IsTrue (is_name name) × (token
 abbrev pub SpellsSystem : List (List ℕ) → System → Type 0
 SpellsSystem tokens system = SpellsEmpty tokens system ⊎ SpellsSingle tokens system
 
--- the tokens of a scenario without events
-abbrev pub empty_scenario : List (List ℕ)
-empty_scenario = codes "scenario" ∷ codes "1" ∷ codes ";" ∷ []
+-- the head line of a scenario
+abbrev pub scenario_words : List (List ℕ)
+scenario_words = codes "scenario" ∷ codes "1" ∷ codes ";" ∷ []
+
+-- the latest time of an event
+abbrev pub latest : ℕ
+latest = 1000000000
+
+-- the greatest number of events of a scenario
+abbrev pub most_events : ℕ
+most_events = 1000
+
+-- the tokens of a part that raises the event of the system, which has one, at its port
+pub record SpellsRaise (S : System) (r : Raise) (ts : List (List ℕ)) : Type 0 where
+  pub has_event : is_name S.event ≡ true
+  pub digits : List ℕ
+  pub time : IsNumeral r.time digits
+  pub early : r.time ≤ latest
+  pub int : List (List ℕ)
+  pub value : SpellsInt r.value int
+  pub tokens : ts ≡ codes "at" ∷ digits ∷ codes "raise" ∷ S.event ∷ codes "(" ∷ (int ++ codes ")" ∷ codes "at" ∷ S.port ∷ codes ";" ∷ [])
+
+-- the tokens of all parts
+abbrev pub SpellsRaises : System → Plan → List (List ℕ) → Type 0
+SpellsRaises S [] ts = ts ≡ []
+SpellsRaises S (r ∷ Z) ts =
+    (front : List (List ℕ)) × ((rest : List (List ℕ)) × SpellsRaise S r front × SpellsRaises S Z rest × (ts ≡ front ++ rest))
 
 -- these tokens spell a scenario of the system, with this plan
-abbrev pub SpellsScenario : List (List ℕ) → System → Plan → Type 0
-SpellsScenario tokens system plan = (tokens ≡ empty_scenario) × (plan ≡ [])
+pub record SpellsScenario (tokens : List (List ℕ)) (S : System) (Z : Plan) : Type 0 where
+  pub parts : List (List ℕ)
+  pub raises : SpellsRaises S Z parts
+  pub few : length Z ≤ most_events
+  pub tokens_are : tokens ≡ scenario_words ++ parts
 
 -- the greatest length of a file
 abbrev pub file_limit : ℕ

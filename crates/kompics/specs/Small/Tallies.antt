@@ -1,6 +1,6 @@
 -- A tally counts what a record holds.
 use Rattle.std.specs.Prelude.{◌≡◌, length}
-use Rattle.kompics.specs.declared.small.machine.Tally.{Tally}
+use Rattle.kompics.specs.declared.small.tally.Tally.{Tally}
 use Rattle.kompics.specs.Small.Records.{History, waiting}
 use Rattle.kompics.specs.Small.Traces.{tooks, dids, moves, outs}
 

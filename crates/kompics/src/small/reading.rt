@@ -1,4 +1,4 @@
-ghost use Rattle.std.specs.Prelude.{◌≡◌, ◌≤◌, IfOk, IfSome};
+ghost use Rattle.std.specs.Prelude.{◌≡◌, ◌≤◌, IfOk, IfSome, length};
 ghost use Rattle.std.specs.Option.{option_map};
 ghost use Rattle.std.specs.Str.{bytes_eq};
 ghost use Rattle.kompics.specs.Small.Tokens.{greatest};
@@ -22,7 +22,7 @@ pub struct Names<'a> {
 }
 
 /// The tokens after these words, where they begin so.
-fn after<'t, 'a>(words: &[&[u8]], tokens: &'t [&'a [u8]]) -> Option<&'t [&'a [u8]]>
+pub fn after<'t, 'a>(words: &[&[u8]], tokens: &'t [&'a [u8]]) -> Option<&'t [&'a [u8]]>
     ensures { rest result ≡ after (seen words.now) (seen tokens.now) }
 {
     let mut left = words;
@@ -84,7 +84,8 @@ fn is_number(token: &[u8]) -> bool
     }
 }
 
-fn number_at<'t, 'a>(tokens: &'t [&'a [u8]]) -> Option<(u64, &'t [&'a [u8]])>
+/// The number that the tokens begin with, at most 2^63 - 1, and the tokens after it.
+pub fn number_at<'t, 'a>(tokens: &'t [&'a [u8]]) -> Option<(u64, &'t [&'a [u8]])>
     ensures read { read result ≡ number_at (seen tokens.now) }
     ensures small { IfSome result (λ r. r.0 ≤ greatest) }
 {
@@ -102,7 +103,8 @@ fn number_at<'t, 'a>(tokens: &'t [&'a [u8]]) -> Option<(u64, &'t [&'a [u8]])>
     }
 }
 
-fn int_at<'t, 'a>(tokens: &'t [&'a [u8]]) -> Option<(i64, &'t [&'a [u8]])>
+/// The number that the tokens begin with, or that follows a minus sign, and the tokens after it.
+pub fn int_at<'t, 'a>(tokens: &'t [&'a [u8]]) -> Option<(i64, &'t [&'a [u8]])>
     ensures { read result ≡ int_at (seen tokens.now) }
 {
     match tokens {
@@ -192,13 +194,14 @@ fn send_at<'t, 'a>(names: &Names, tokens: &'t [&'a [u8]]) -> Option<(Statement, 
 }
 
 /// The statements up to a `}`, at most 32.
-#[tactic(auto, using(crate::proofs::Reading::no_front))]
+#[tactic(auto, using(crate::proofs::SmallLaws::Reading::no_front))]
 pub fn block_at<'t, 'a>(
     alloc: Global,
     names: &Names,
     tokens: &'t [&'a [u8]],
 ) -> Result<Option<(Vec<Statement>, &'t [&'a [u8]])>, AllocError>
-    ensures { IfOk result (λ o. block_read o ≡ block_at 32 (held names.now) (seen tokens.now)) }
+    ensures read { IfOk result (λ o. block_read o ≡ block_at 32 (held names.now) (seen tokens.now)) }
+    ensures few { IfOk result (λ o. IfSome o (λ b. length b.0.items ≤ 32)) }
 {
     let mut block = Vec::new(alloc);
     match add_block(names, tokens, 32, &mut block)? {

@@ -63,6 +63,13 @@ impl Record {
         }
     }
 
+    /// How many entries there are.
+    pub fn len(&self) -> usize
+        ensures { result ≡ length self.now }
+    {
+        self.entries.len()
+    }
+
     /// Adds the newest entry.
     pub fn push(&mut self, entry: Entry) -> Result<(), AllocError>
         ensures { OnOk result (self.new ≡ entry ∷ self.old) }

@@ -23,7 +23,8 @@ pub enum Statement {
     Send(Atom),
 }
 
-/// A small system: the names of its port and of its event, and the first values of its variables.
+/// A small system: the names of its port and of its event, the first values of its variables, and
+/// the statements of its handler, at most 32.
 #[derive(Drop)]
 pub struct System<'a> {
     pub port: &'a [u8],
@@ -33,11 +34,14 @@ pub struct System<'a> {
 }
 
 impl<'a> Model for System<'a> {
+    ghost use Rattle.std.specs.Prelude.{◌≤◌, length};
     ghost use Rattle.kompics.specs.Small.Systems.{System};
 
     ghost Value = { System };
 
     ghost view = { λ s. record { port = s.port.now; event = s.event.now; vars = s.vars; block = s.block.items } };
+
+    ghost invariant = { λ s. length s.block.items ≤ 32 };
 }
 
 /// The small system of a text, none where it is not that of one.
@@ -105,6 +109,7 @@ fn read_end<'a>(
     block: Vec<Statement>,
     tokens: &[&'a [u8]],
 ) -> Result<Option<System<'a>>, AllocError>
+    requires { length block.items ≤ 32 }
     ensures { IfOk result (λ o. o ≡ after_block (held names.now) first (blocked block.items (seen tokens.now))) }
 {
     if !is_closed(names, tokens) {

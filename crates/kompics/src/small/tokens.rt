@@ -67,7 +67,7 @@ impl<'a> Tokens<'a> {
 
 const GREATEST: u128 = 9223372036854775807;
 
-/// Whether two lists of byte strings are equal, element by element from a place on.
+/// Whether two lists of byte strings are equal, element by element.
 pub fn are_from(tokens: &[&[u8]], words: &[&[u8]]) -> bool
     ensures { IsTrue result ↔ (map (λ b. b.now) tokens.now ≡ map (λ b. b.now) words.now) }
 {

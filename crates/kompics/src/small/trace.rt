@@ -4,9 +4,10 @@ ghost use Rattle.std.specs.Fmt.{decimal};
 ghost use Rattle.kompics.specs.Small.Tallies.{IsTally};
 ghost use Rattle.kompics.specs.Small.Traces.{lines, summary, entry_text, head_text, item_text, event_text, trigger_text, releases_text, release_text, release_place, entry_number_text, values_text, active_word, newline, space, ending_text, counts_text};
 
-use crate::small::machine::{Simulated, Tally};
+use crate::small::machine::Simulated;
 use crate::small::record::{Entry, Item, Record};
 use crate::small::system::System;
+use crate::small::tally::Tally;
 use crate::small::text::Text;
 use kom_base::{Comp, EntryNo, Values};
 use std::alloc::{AllocError, Global};

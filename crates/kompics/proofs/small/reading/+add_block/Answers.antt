@@ -1,6 +1,6 @@
 use Rattle.std.proofs.Common.{◌∙◌, ◌<◌, sym, arith}
 use Rattle.kompics.specs.Small.Reading.{seen, held}
-use Rattle.kompics.proofs.Reading.{added_more, block_ended, block_full, block_stuck}
+use Rattle.kompics.proofs.SmallLaws.Reading.{added_more, block_ended, block_full, block_stuck}
 use Rattle.kompics.proofs.small.reading.+add_block.Goals as goal
 
 pub returns-then-begins : goal.returns-then-begins

@@ -1,6 +1,6 @@
 use Rattle.std.proofs.Common.{◌∙◌, sym}
 use Rattle.kompics.specs.Small.Reading.{seen, held}
-use Rattle.kompics.proofs.Reading.{named_ok}
+use Rattle.kompics.proofs.SmallLaws.Reading.{named_ok}
 use Rattle.kompics.proofs.small.system.read_single.Goals as goal
 
 pub returns-then-are_names : goal.returns-then-are_names

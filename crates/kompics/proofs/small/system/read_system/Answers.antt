@@ -1,6 +1,6 @@
 use Rattle.std.proofs.Common.{◌∙◌, sym}
 use Rattle.kompics.specs.Small.Reading.{seen}
-use Rattle.kompics.proofs.Reading.{either_ok}
+use Rattle.kompics.proofs.SmallLaws.Reading.{either_ok}
 use Rattle.kompics.proofs.small.system.read_system.Goals as goal
 
 pub returns : goal.returns

@@ -1,5 +1,5 @@
 use Rattle.std.proofs.Common.{◌∙◌, sym}
-use Rattle.kompics.proofs.Lexing.{same_views}
+use Rattle.kompics.proofs.SmallLaws.Lexing.{same_views}
 use Rattle.kompics.proofs.small.tokens.are_from.Goals as goal
 
 pub returns : goal.returns

@@ -1,6 +1,6 @@
 use Rattle.std.proofs.Common.{◌+◌, ◌*◌, arith}
 use Rattle.kompics.specs.Small.Tokens.{number_from}
-use Rattle.kompics.proofs.Lexing.{too_great}
+use Rattle.kompics.proofs.SmallLaws.Lexing.{too_great}
 use Rattle.kompics.proofs.small.tokens.number_from.Goals as goal
 
 pub returns-then-next-gt-GREATEST : goal.returns-then-next-gt-GREATEST

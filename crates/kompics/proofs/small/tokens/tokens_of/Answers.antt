@@ -1,7 +1,7 @@
 use Rattle.std.proofs.Common.{◌∙◌, ◌++◌, ◌∷◌, [], take, drop, sym, ap}
 use Rattle.std.specs.Option.{option_map}
 use Rattle.kompics.specs.Small.Tokens.{tokens_of}
-use Rattle.kompics.proofs.Lexing.{gap_step, token_step, one_more}
+use Rattle.kompics.proofs.SmallLaws.Lexing.{gap_step, token_step, one_more}
 use Rattle.kompics.proofs.small.tokens.tokens_of.Goals as goal
 
 pub loop-rest-preserved-in-Gap : goal.loop-rest-preserved-in-Gap

@@ -1,7 +1,7 @@
 use Rattle.std.proofs.Common.{◌≡◌, ◌<◌, ◌++◌, ◌∙◌, ap, pos, get_or, length, take, arith}
 use Rattle.std.proofs.lemmas.List.{length-take}
 use Rattle.kompics.specs.Small.Traces.{release_text}
-use Rattle.kompics.proofs.Texts.{releases_more, there}
+use Rattle.kompics.proofs.SmallLaws.Texts.{releases_more, there}
 use Rattle.kompics.proofs.small.trace.add_releases.Goals as goal
 
 pub loop-i-preserved : goal.loop-i-preserved

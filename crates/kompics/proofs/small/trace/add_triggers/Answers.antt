@@ -1,6 +1,6 @@
 use Rattle.std.proofs.Common.{◌<◌, pos, get_or, length, arith}
 use Rattle.kompics.specs.Small.Traces.{trigger_text}
-use Rattle.kompics.proofs.Texts.{text_more, there}
+use Rattle.kompics.proofs.SmallLaws.Texts.{text_more, there}
 use Rattle.kompics.proofs.small.trace.add_triggers.Goals as goal
 
 pub loop-i-preserved : goal.loop-i-preserved

@@ -1,6 +1,6 @@
 use Rattle.std.proofs.Common.{◌<◌, ◌∷◌, ◌++◌, ◌∙◌, ap, pos, get_or, length, arith}
 use Rattle.std.specs.Fmt.{signed_decimal}
-use Rattle.kompics.proofs.Texts.{text_more, append_nothing, there}
+use Rattle.kompics.proofs.SmallLaws.Texts.{text_more, append_nothing, there}
 use Rattle.kompics.proofs.small.trace.add_values.Goals as goal
 
 pub loop-i-preserved : goal.loop-i-preserved

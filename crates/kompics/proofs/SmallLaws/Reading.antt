@@ -12,7 +12,7 @@ use Rattle.kompics.specs.declared.small.system.Statement.{Statement}
 use Rattle.kompics.specs.declared.small.system.Statement.TheVariants as statement
 use Rattle.kompics.specs.Small.Tokens.{number_of, greatest, is_letter, tokens_of}
 use Rattle.kompics.specs.Small.Systems.{Names, System, IsNumeral, SpellsInt, SpellsAtom, SpellsStatement, SpellsBlock, SpellsSingle, SpellsEmpty, SpellsSystem, IsSystem, nothing, file_limit, is_number, is_name, attribute, event_words, port_words, component_words, middle, closing, are_names, are_declared, differ as differ_in}
-use Rattle.kompics.specs.Small.Reading.{Tokens, after, begins, goes_on, begins_number, number_at, int_at, atom_at, set_at, send_at, statement_at, block_at, after_opening, after_int, after_head, after_block, head_at, is_end, is_closed, system_of, with_int, blocked, single_with, single_at, names_of, minus, counted, negated, unsigned, as_atom, with_atom, with_statement, with_block, with_front, with_rest, set_head, set_tail, send_head, send_tail, set_end, send_end}
+use Rattle.kompics.specs.Small.Reading.{Tokens, after, begins, goes_on, begins_number, number_at, int_at, atom_at, set_at, send_at, statement_at, block_at, after_opening, after_int, after_head, after_block, head_at, is_end, is_closed, system_of, with_int, blocked, single_with, single_at, names_of, minus, counted, negated, unsigned, as_atom, with_atom, with_statement, with_block, with_front, with_rest, seen, set_head, set_tail, send_head, send_tail, set_end, send_end}
 
 -- the first value of a step that was taken, and what it went on to
 pub record Taken {A B : Type 0} (o : Option A) (f : A → Option B) (y : B) : Type 0 where
@@ -20,7 +20,7 @@ pub record Taken {A B : Type 0} (o : Option A) (f : A → Option B) (y : B) : Ty
   pub was : o ≡ Some x
   pub then : f x ≡ Some y
 
-bind : {A B : Type 0} (o : Option A) (f : A → Option B) (y : B) → option_and_then f o ≡ Some y → Taken o f y
+pub bind : {A B : Type 0} (o : Option A) (f : A → Option B) (y : B) → option_and_then f o ≡ Some y → Taken o f y
 bind None f y h = absurd (cc)
 bind (Some x) f y h = record { x = x; was = refl; then = h }
 
@@ -29,7 +29,7 @@ pub record Mapped {A B : Type 0} (o : Option A) (f : A → B) (y : B) : Type 0 w
   pub was : o ≡ Some x
   pub gives : f x ≡ y
 
-mapped : {A B : Type 0} (o : Option A) (f : A → B) (y : B) → option_map f o ≡ Some y → Mapped o f y
+pub mapped : {A B : Type 0} (o : Option A) (f : A → B) (y : B) → option_map f o ≡ Some y → Mapped o f y
 mapped None f y h = absurd (cc)
 mapped (Some x) f y h = record { x = x; was = refl; gives = cc }
 
@@ -37,15 +37,15 @@ chosen : {A : Type 0} (b : Bool) (x y z : A) → cond b x y ≡ z → ((b ≡ tr
 chosen true x y z h = inl (refl, h)
 chosen false x y z h = inr (refl, h)
 
-guarded : {A : Type 0} (b : Bool) (x : Option A) (y : A) → cond b x None ≡ Some y → (b ≡ true) × (x ≡ Some y)
+pub guarded : {A : Type 0} (b : Bool) (x : Option A) (y : A) → cond b x None ≡ Some y → (b ≡ true) × (x ≡ Some y)
 guarded true x y h = (refl, h)
 guarded false x y h = absurd (cc)
 
-some_same : {A : Type 0} (x y : A) → Some x ≡ Some y → x ≡ y
+pub some_same : {A : Type 0} (x y : A) → Some x ≡ Some y → x ≡ y
 some_same x y h = cc
 
 -- a number with the tokens after it
-abbrev whole : ℤ → Tokens → ℤ × Tokens
+abbrev pub whole : ℤ → Tokens → ℤ × Tokens
 whole z ts = (z, ts)
 
 both_true : (a b : Bool) → (a && b) ≡ true → (a ≡ true) × (b ≡ true)
@@ -71,11 +71,11 @@ name_no_number : (w : List ℕ) → is_name w ≡ true → is_number w ≡ false
 name_no_number [] h = refl
 name_no_number (b ∷ bs) h = letter_no_digit b h
 
-after_front : (ws r : Tokens) → after ws (ws ++ r) ≡ Some r
+pub after_front : (ws r : Tokens) → after ws (ws ++ r) ≡ Some r
 after_front [] r = refl
 after_front (w ∷ ws) r = ap (λ b. cond b (after ws (ws ++ r)) None) (same w) ∙ after_front ws r
 
-after_is : (ws ts r : Tokens) → after ws ts ≡ Some r → ts ≡ ws ++ r
+pub after_is : (ws ts r : Tokens) → after ws ts ≡ Some r → ts ≡ ws ++ r
 after_is [] ts r h = cc
 after_is (w ∷ ws) [] r h = absurd (cc)
 after_is (w ∷ ws) (t ∷ ts) r h =
@@ -90,7 +90,7 @@ pub record NumberRead (ts : Tokens) (n : ℕ) (r : Tokens) : Type 0 where
   pub is : IsNumeral n digits
   pub tokens : ts ≡ digits ∷ r
 
-number_sound : (ts : Tokens) (n : ℕ) (r : Tokens) → number_at ts ≡ Some (counted n r) → NumberRead ts n r
+pub number_sound : (ts : Tokens) (n : ℕ) (r : Tokens) → number_at ts ≡ Some (counted n r) → NumberRead ts n r
 number_sound [] n r h = absurd (cc)
 number_sound (t ∷ ts) n r h =
     let g = guarded (is_number t && nat_le (number_of t) greatest) (Some (counted (number_of t) ts)) (counted n r) h in
@@ -103,7 +103,7 @@ taken_so n ds r true true p q e = ap (λ m. Some (counted m r)) (sym e)
 taken_so n ds r true false p q e = absurd (cc)
 taken_so n ds r false b p q e = absurd (cc)
 
-number_whole : (n : ℕ) (ds : List ℕ) (r : Tokens) → IsNumeral n ds → number_at (ds ∷ r) ≡ Some (counted n r)
+pub number_whole : (n : ℕ) (ds : List ℕ) (r : Tokens) → IsNumeral n ds → number_at (ds ∷ r) ≡ Some (counted n r)
 number_whole n ds r i = taken_so n ds r (is_number ds) (nat_le (number_of ds) greatest) i.number (grind (arith, nat_tests, i.small)) i.value
 
 -- whole numbers
@@ -139,11 +139,11 @@ int_by : (t : List ℕ) (ts : Tokens) (z : ℤ) (r : Tokens) → ((bytes_eq t mi
 int_by t ts z r (inl h) = negative_read t ts z r h.0 h.1
 int_by t ts z r (inr h) = positive_read (t ∷ ts) z r h.1
 
-int_sound : (ts : Tokens) (z : ℤ) (r : Tokens) → int_at ts ≡ Some (whole z r) → IntRead ts z r
+pub int_sound : (ts : Tokens) (z : ℤ) (r : Tokens) → int_at ts ≡ Some (whole z r) → IntRead ts z r
 int_sound [] z r h = absurd (cc)
 int_sound (t ∷ ts) z r h = int_by t ts z r (chosen (bytes_eq t minus) (option_map negated (number_at ts)) (option_map unsigned (number_at (t ∷ ts))) (Some (whole z r)) h)
 
-int_whole : (z : ℤ) (int r : Tokens) → SpellsInt z int → int_at (int ++ r) ≡ Some (whole z r)
+pub int_whole : (z : ℤ) (int r : Tokens) → SpellsInt z int → int_at (int ++ r) ≡ Some (whole z r)
 int_whole z int r (inl s) =
     let n = s.0 in
     let ds = s.1.0 in
@@ -471,6 +471,10 @@ one_more N (suc k) ts rest s front h b e =
 pub no_front : (o : Option (List Statement × Tokens)) → option_map (with_front []) o ≡ o
 no_front None = refl
 no_front (Some b) = refl
+
+-- a block that was read has at most 32 statements
+pub block_few : (N : Names) (ts : Tokens) (front block : List Statement) (o : Option (Bor (List (Bor (List ℕ))))) (r : Bor (List (Bor (List ℕ)))) → front ≡ [] → with_rest block o ≡ option_map (with_front front) (block_at 32 N ts) → o ≡ Some r → length block ≤ 32
+block_few N ts front block o r none h e = (block_sound N 32 ts block (seen r.now) (sym (no_front (block_at 32 N ts)) ∙ ap (λ x. option_map (with_front x) (block_at 32 N ts)) (sym none) ∙ sym h ∙ ap (with_rest block) e)).few
 
 -- the statements that were added, and those of the rest
 pub added_more : {E : Type 0} (r : Result (Option (Bor (List (Bor (List ℕ))))) E) (N : Names) (most : ℕ) (ts rest : Tokens) (s : Statement) (front front' block : List Statement) → IfOk r (λ o. with_rest block o ≡ option_map (with_front front') (block_at (most - 1) N rest)) → front' ≡ front ++ s ∷ [] → 0 < most → begins (codes "}") ts ≡ false → statement_at N ts ≡ Some (with_statement s rest) → IfOk r (λ o. with_rest block o ≡ option_map (with_front front) (block_at most N ts))
