@@ -1,0 +1,5 @@
+pub mod WordSteps
+pub mod ListSteps
+pub mod ItemReads
+pub mod ItemWhole
+pub mod Exact

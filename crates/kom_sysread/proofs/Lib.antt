@@ -1,0 +1,5 @@
+pub mod Rows
+pub mod FileReads
+pub mod RowSteps
+pub mod FileWhole
+pub mod Exact
