@@ -1,0 +1,4 @@
+pub mod Answers
+pub mod Handlers
+pub mod Selected
+pub mod Wanted

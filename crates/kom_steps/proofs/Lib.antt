@@ -1,0 +1,3 @@
+pub mod Steps
+pub mod Removes
+pub mod Fits

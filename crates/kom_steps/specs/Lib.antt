@@ -1,0 +1,2 @@
+pub mod Handlings
+pub mod Faults

@@ -1,0 +1,15 @@
+//! The statements of a handling, run one after another.
+#![tactic(auto)]
+
+mod body;
+mod children;
+mod events;
+mod handling;
+mod names;
+mod ports;
+mod run;
+mod subscriptions;
+mod wires;
+
+pub use handling::{Handling, Setting};
+pub use run::run_statements;
