@@ -33,8 +33,8 @@ pub record Handles (S : System) (i : Item) (before after : Run) : Type 0 where
   pub from : after.from ≡ before.from
   pub few : length (reaction S before.body i).sent ≤ 32
 
--- nothing is in hand, the component is active, these items wait for it, the events before the run's
--- time were released, and the record is as short as the plan lets it be
+-- nothing is in hand, the component is active, these items wait for it, and the events before the
+-- run's time were released; how long the record can become, and how much went out
 pub record IsIdle (S : System) (Z : Plan) (run : Run) (queue : List Item) : Type 0 where
   pub legal : IsLegal S Z run.kept
   pub in_order : IsInOrder run.kept
