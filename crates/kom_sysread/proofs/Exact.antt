@@ -123,3 +123,15 @@ module _ (text : List ℕ) (ts : List Token) (cut : AreTokens text ts) where
       spells = file_spelled (file (length text)) (SpellsFile (length text)) (file_reader (length text)) (file_whole (length text)) (lexemes text ts) tree
           (file_is (length text) (lexemes text ts) two middle begun ∙ e ∙ ap (λ a. Read tree a) end);
     }
+
+-- a file has its header
+pub file_headed : (end : ℕ) (ts : List Lexeme) (tree : Parts) → SpellsFile end ts tree → header_break ts ≡ None
+unfolding file
+file_headed end ts tree d = by_case (headed ts) where
+  refuses : (after : List Lexeme) → header ts ≡ Refuse after → file end ts ≡ Refuse after
+  refuses after e = rw e refl
+
+  by_case : Headed ts → header_break ts ≡ None
+  by_case (good two other read fine) = fine
+  by_case (bad k other refused broken counts) =
+      absurd (let both : Refuse other ≡ Read tree [] = sym (refuses other refused) ∙ file_whole end ts tree d in cc)

@@ -3,3 +3,4 @@ pub mod FileReads
 pub mod RowSteps
 pub mod FileWhole
 pub mod Exact
+pub mod Once

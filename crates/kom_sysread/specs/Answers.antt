@@ -53,3 +53,15 @@ abbrev pub IsAnswer : List ℕ → PartsRead → Type 0
 IsAnswer text (Parts tree) = IsTreeOf text tree
 IsAnswer text (Refused rule at) = Breaks text rule at
 IsAnswer text Memory = Unit {0}
+
+-- this tree, unless memory ran out
+abbrev pub Gives : PartsRead → Tree → Type 0
+Gives (Parts found) tree = found ≡ tree
+Gives (Refused rule at) tree = ⊥
+Gives Memory tree = Unit {0}
+
+-- refused by this rule at this place, unless memory ran out
+abbrev pub Refuses : PartsRead → (rule at : ℕ) → Type 0
+Refuses (Parts found) rule at = ⊥
+Refuses (Refused found place) rule at = (found ≡ rule) × (place ≡ at)
+Refuses Memory rule at = Unit {0}

@@ -1,5 +1,6 @@
-ghost use Rattle.std.specs.Prelude.{◌≡◌, ◌≤◌, ◌-◌, length};
-ghost use Rattle.kom_sysread.specs.Answers.{IsAnswer, AreTokens, place_at};
+ghost use Rattle.std.specs.Prelude.{◌≡◌, ◌≤◌, ◌-◌, ℕ, length};
+ghost use Rattle.kom_system.specs.declared.parts.Parts.{Parts as Tree};
+ghost use Rattle.kom_sysread.specs.Answers.{IsAnswer, IsTreeOf, Breaks, Gives, Refuses, AreTokens, place_at};
 
 use crate::file::{decls, header};
 use kom_parse::{Reader, Stop};
@@ -67,10 +68,7 @@ fn read_tokens(alloc: Global, text: &[u8], tokens: &[Token]) -> PartsRead
     }
 }
 
-/// Reads the syntax tree of a system file, in one pass over its tokens. The text has at most
-/// 1,048,576 bytes. It takes no memory but that of the tokens and of the tree, and goes no deeper
-/// than the limits of blocks and parentheses.
-pub fn read_parts(alloc: Global, text: &[u8]) -> PartsRead
+fn read_text(alloc: Global, text: &[u8]) -> PartsRead
     requires { length text.now ≤ 1048576 }
     ensures { IsAnswer text.now result }
 {
@@ -83,4 +81,20 @@ pub fn read_parts(alloc: Global, text: &[u8]) -> PartsRead
         },
         Tokens::Memory => PartsRead::Memory,
     }
+}
+
+/// Reads the syntax tree of a system file, in one pass over its tokens. The text has at most
+/// 1,048,576 bytes. It takes no memory but that of the tokens and of the tree, and goes no deeper
+/// than the limits of blocks and parentheses.
+#[tactic(auto, using(crate::proofs::Once::gives_all, crate::proofs::Once::refuses_all))]
+pub fn read_parts(alloc: Global, text: &[u8]) -> PartsRead
+    requires { length text.now ≤ 1048576 }
+    // A tree is that of the text, and a refusal names a rule that the text breaks.
+    ensures answer { IsAnswer text.now result }
+    // The tree of a text is read, unless memory runs out.
+    ensures accepts { (tree : Tree) → IsTreeOf text.now tree → Gives result tree }
+    // A text that breaks a rule is refused by it, unless memory runs out.
+    ensures refuses { (rule at : ℕ) → Breaks text.now rule at → Refuses result rule at }
+{
+    read_text(alloc, text)
 }

@@ -1,5 +1,5 @@
 use Rattle.kom_sysread.specs.Answers.{bad_byte, number_too_big}
-use Rattle.kom_sysread.proofs.text.read_parts.Goals as goal
+use Rattle.kom_sysread.proofs.text.read_text.Goals as goal
 
 pub returns-in-BadByte : goal.returns-in-BadByte
 returns-in-BadByte c = bad_byte _ c.in-BadByte.ensures
