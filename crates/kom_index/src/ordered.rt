@@ -1,4 +1,4 @@
-ghost use Rattle.std.specs.Prelude.{◌≡◌, ◌+◌, ◌-◌, ◌<◌, ◌≤◌, max, [], ◌∷◌, ◌++◌, Some, None, IsSome, OnOk, OnErr, IfOk, length, map, if◌then◌else◌, vec_len, vec_capacity};
+ghost use Rattle.std.specs.Prelude.{◌≡◌, ◌+◌, ◌-◌, ◌<◌, ◌≤◌, ◌^◌, max, [], ◌∷◌, ◌++◌, Some, None, IsSome, OnOk, OnErr, IfOk, length, map, if◌then◌else◌, vec_len, vec_capacity};
 ghost use Rattle.std.specs.Ordering.{is_eq};
 ghost use Rattle.std.specs.Option.{option_copied, option_map};
 ghost use Rattle.kom_index.specs.Entries.{Rises, value_of, without, revalued, inserted, first_from, IsFirstFrom, between};
@@ -66,9 +66,10 @@ impl<K: Ord, V> Ordered<K, V> {
     /// How many keys lie between two bounds, which are among them. It costs as much as it counts and
     /// the logarithm of the rest.
     pub fn count_between(&self, low: &K, high: &K) -> usize
-        ensures { result ≡ length (between K.cmp low.now high.now (entries self.now)) }
+        ensures count { result ≡ length (between K.cmp low.now high.now (entries self.now)) }
+        ensures small { result < 2 ^ 63 }
     {
-        let _len = self.len;
+        let _room = self.sides.capacity();
         self.tree.count_between(low, high, 0)
     }
 
