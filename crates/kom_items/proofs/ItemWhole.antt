@@ -32,7 +32,7 @@ use Rattle.kom_exprs.specs.Reading.{int}
 use Rattle.kom_exprs.proofs.ExprReads.{int_reader}
 use Rattle.kom_exprs.proofs.ExprWhole.{int_whole}
 use Rattle.kom_exprs.proofs.NameLaws.{name_reader, name_whole, no_keyword}
-use Rattle.kom_stmts.proofs.StmtWhole.{target_whole, block_whole}
+use Rattle.kom_stmts.proofs.StmtWhole.{names_whole, target_whole, block_whole}
 use Rattle.kom_items.specs.declared.words.ItemWord.{ItemWord}
 use Rattle.kom_items.specs.declared.words.ItemWord.TheVariants as item_is
 use Rattle.kom_items.specs.declared.words.OnWord.{OnWord}
@@ -48,12 +48,6 @@ begins_int t v after (minus a b) = refl
 
 ints_whole : {t : List Lexeme} {vs : List ℤ} → SpellsParens SpellsInt t vs → (after : List Lexeme) → in_parens int (t ++ after) ≡ Read vs after
 ints_whole = parens_whole int SpellsInt int_reader (λ o. Unit {0}) (λ a. tt) (λ a. tt) (λ t v after d stops. int_whole t v after d) begins_int
-
-begins_name : (t : List Lexeme) (n : Spot) (after : List Lexeme) → SpellsName t n → closes (first (t ++ after)) ≡ false
-begins_name t n after (spells_name a h) = refl
-
-pub names_whole : {t : List Lexeme} {ns : List Spot} → SpellsParens SpellsName t ns → (after : List Lexeme) → in_parens (name is_name) (t ++ after) ≡ Read ns after
-names_whole = parens_whole (name is_name) SpellsName name_reader (λ o. Unit {0}) (λ a. tt) (λ a. tt) (λ t n after d stops. name_whole d after) begins_name
 
 -- ---- component types with arguments
 

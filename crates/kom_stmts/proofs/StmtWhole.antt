@@ -13,7 +13,7 @@ use Rattle.kom_text.specs.declared.token.TokenKind.TheVariants.{Word, Sign}
 use Rattle.kom_text.specs.Numbers.{decimal}
 use Rattle.kom_parse.specs.Lexemes.{Lexeme, number_lexeme}
 use Rattle.kom_parse.specs.Input.{Read, Parser, first, eat_if, want, loop}
-use Rattle.kom_parse.specs.Rules.{is_exactly, eat, in_parens, closes, by_bytes, word_among, onto, row_turn}
+use Rattle.kom_parse.specs.Rules.{name, is_exactly, eat, in_parens, closes, by_bytes, word_among, onto, row_turn}
 use Rattle.kom_parse.specs.Spelled.{SpellsParens, parens}
 use Rattle.kom_parse.proofs.Laws.{may_takes, may_misses}
 use Rattle.kom_parse.proofs.Tokens.{exactly_reads, number_reads, name_reads, by_bytes-is}
@@ -28,7 +28,7 @@ use Rattle.kom_grammar.specs.Statements.{SpellsTarget, SpellsBlock, SpellsStmts,
 use Rattle.kom_exprs.specs.Reading.{expr}
 use Rattle.kom_exprs.proofs.ExprReads.{expr_reader}
 use Rattle.kom_exprs.proofs.ExprWhole.{Stops, expr_whole}
-use Rattle.kom_exprs.proofs.NameLaws.{name_whole, no_keyword}
+use Rattle.kom_exprs.proofs.NameLaws.{name_reader, name_whole, no_keyword}
 use Rattle.kom_stmts.specs.declared.keywords.Command.{Command}
 use Rattle.kom_stmts.specs.declared.keywords.Command.TheVariants as cmd
 use Rattle.kom_stmts.specs.declared.keywords.Keyword.{Keyword}
@@ -55,6 +55,12 @@ begins_expr t y after d = begins_at d.2 after
 
 pub exprs_whole : {t : List Lexeme} {xs : List ExprPart} → SpellsParens SpellsExpr t xs → (after : List Lexeme) → in_parens expr (t ++ after) ≡ Read xs after
 exprs_whole = parens_whole expr SpellsExpr expr_reader (Stops whole) (λ a j less. refl) (λ a j less. refl) expr_whole begins_expr
+
+begins_name : (t : List Lexeme) (n : Spot) (after : List Lexeme) → SpellsName t n → closes (first (t ++ after)) ≡ false
+begins_name t n after (spells_name a h) = refl
+
+pub names_whole : {t : List Lexeme} {ns : List Spot} → SpellsParens SpellsName t ns → (after : List Lexeme) → in_parens (name is_name) (t ++ after) ≡ Read ns after
+names_whole = parens_whole (name is_name) SpellsName name_reader (λ o. Unit {0}) (λ a. tt) (λ a. tt) (λ t n after d stops. name_whole d after) begins_name
 
 begins_else : {two : Bool} {levels : ℕ} {t : List Lexeme} {y : StmtPart} → SpellsStmt two levels t y → (after : List Lexeme) → is_exactly Word (codes "else") (first (t ++ after)) ≡ false
 begins_else (g.set a b (spells_name {bytes = n} c h) d) after = rw (no_keyword n (codes "else") h refl) refl

@@ -1,7 +1,10 @@
 ghost use Rattle.std.specs.Prelude.{◌≡◌};
 ghost use Rattle.kom_parse.specs.Input.{Reads};
 ghost use Rattle.kom_parse.specs.Rules.{name, list, in_parens};
-ghost use Rattle.kom_grammar.specs.Words.{is_name};
+ghost use Rattle.kom_parse.specs.Spelled.{SpellsParens};
+ghost use Rattle.kom_parse.specs.Answers.{IsAnswer};
+ghost use Rattle.kom_grammar.specs.Words.{is_name, SpellsName};
+ghost use Rattle.kom_grammar.specs.Expressions.{SpellsExpr};
 ghost use Rattle.kom_exprs.specs.Reading.{expr};
 
 use kom_exprs::{read_expr, read_name};
@@ -85,16 +88,22 @@ fn in_parens<T: Listed>(reader: &mut Reader<'_>) -> Result<Items<T>, Stop>
     Ok(items)
 }
 
-/// Reads names in parentheses.
+/// Reads names in parentheses, with commas between them. `Refused` comes at the first token at
+/// which no such list goes on so, which is left as the next one.
+#[tactic(auto, using(crate::proofs::Exact::names_exact))]
 pub fn read_names(reader: &mut Reader<'_>) -> Result<Spots, Stop>
-    ensures { Reads (in_parens (name is_name) reader.old) result reader.new }
+    ensures reads { Reads (in_parens (name is_name) reader.old) result reader.new }
+    ensures exact { IsAnswer (SpellsParens SpellsName) reader.old result reader.new }
 {
     in_parens(reader)
 }
 
-/// Reads expressions in parentheses.
+/// Reads expressions in parentheses, with commas between them. `Refused` comes at the first token
+/// at which no such list goes on so, which is left as the next one.
+#[tactic(auto, using(crate::proofs::Exact::exprs_exact))]
 pub fn read_exprs(reader: &mut Reader<'_>) -> Result<ExprParts, Stop>
-    ensures { Reads (in_parens expr reader.old) result reader.new }
+    ensures reads { Reads (in_parens expr reader.old) result reader.new }
+    ensures exact { IsAnswer (SpellsParens SpellsExpr) reader.old result reader.new }
 {
     in_parens(reader)
 }

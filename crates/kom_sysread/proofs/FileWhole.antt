@@ -23,10 +23,10 @@ use Rattle.kom_grammar.specs.Files as g
 use Rattle.kom_grammar.specs.Files.{SpellsItem, SpellsListed, SpellsDecl, SpellsFile}
 use Rattle.kom_exprs.proofs.NameLaws.{name_whole}
 use Rattle.kom_stmts.specs.Reading.{direction, ends_block}
-use Rattle.kom_stmts.proofs.StmtWhole.{direction_whole}
+use Rattle.kom_stmts.proofs.StmtWhole.{names_whole, direction_whole}
 use Rattle.kom_items.specs.Reading.{child, item}
 use Rattle.kom_items.proofs.ItemReads.{item_reader, some_tokens as some_of_item}
-use Rattle.kom_items.proofs.ItemWhole.{names_whole, child_whole, item_whole, begins_item}
+use Rattle.kom_items.proofs.ItemWhole.{child_whole, item_whole, begins_item}
 use Rattle.kom_sysread.specs.Reading.{no_lines, add_line, no_items, add_item, no_decls, add_decl, parent, event, line, lines, port_type, items, component, root, decl, version, header, decls, file}
 use Rattle.kom_sysread.proofs.Rows.{all_lines, all_items, all_decls}
 use Rattle.kom_sysread.proofs.FileReads.{line_reader, some_of_line, decl_reader, some_of_decl}

@@ -79,14 +79,14 @@ fn keeps_what_is_declared(rt: HostRuntime) {
             assert_eq!(rt; parts.end, 101);
             assert_eq!(rt; parts.events.len(), 1);
             assert_eq!(rt; parts.ports.len(), 1);
-            assert_eq!(rt; parts.roots.as_slice()[0].at, 21);
-            match parts.components.get(0) {
-                Some(kind) => {
+            match (parts.roots.get(0), parts.components.get(0)) {
+                (Some(root), Some(kind)) => {
+                    assert_eq!(rt; root.at, 21);
                     assert_eq!(rt; kind.name.at, 69);
                     assert_eq!(rt; kind.slots.len(), 2);
                     assert_eq!(rt; kind.vars.len(), 1);
                 }
-                None => assert!(rt; false, "the component type is there"),
+                _ => assert!(rt; false, "the declarations are there"),
             }
         }
         _ => assert!(rt; false, "the text is read"),
