@@ -1,6 +1,7 @@
 ghost use Rattle.std.specs.Prelude.{◌<◌, length};
 
 use crate::expr::read_expr;
+use crate::numbers::read_int;
 use kom_parse::Reader;
 use kom_text::{Tokens, tokens};
 use std::test::Fail;
@@ -67,4 +68,31 @@ fn counts_parentheses(rt: HostRuntime) -> Result<(), Fail> {
         assert_eq!(rt; read(&rt, text.as_slice()), Some((is_read, left)));
     }
     Ok(())
+}
+
+/// The number that was read, and how many tokens were left.
+fn read_number(rt: &HostRuntime, text: &[u8]) -> Option<(Option<i64>, usize)>
+    requires { length text.now < 1000 }
+{
+    let Tokens::List(list) = tokens(rt.alloc(), text) else {
+        return None;
+    };
+    let mut reader = Reader::new(rt.alloc(), text, list.as_slice());
+    let number = read_int(&mut reader).ok();
+    Some((number, reader.left()))
+}
+
+#[test]
+fn reads_numbers_with_a_sign(rt: HostRuntime) {
+    let cases: [(&[u8], Option<i64>, usize); 5] = [
+        (b"007 ;", Some(7), 1),
+        (b"- 7", Some(-7), 0),
+        (b"-9223372036854775807", Some(-9223372036854775807), 0),
+        (b"- - 1", None, 2),
+        (b"x", None, 1),
+    ];
+    for (text, number, left) in cases {
+        assert!(rt; text.len() < 1000);
+        assert_eq!(rt; read_number(&rt, text), Some((number, left)));
+    }
 }

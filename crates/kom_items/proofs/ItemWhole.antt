@@ -4,7 +4,6 @@ use Rattle.std.specs.Prelude.{codes}
 use Rattle.std.proofs.lemmas.List.{append-nil}
 use Rattle.kom_events.specs.declared.selector.Op.{Op}
 use Rattle.kom_events.specs.declared.selector.Op.TheVariants as rel
-use Rattle.kom_system.specs.declared.parts.Spot.{Spot}
 use Rattle.kom_system.specs.declared.parts.StmtPart.{StmtPart}
 use Rattle.kom_system.specs.declared.parts.OnPart.{OnPart}
 use Rattle.kom_system.specs.declared.parts.HandlerPart.{HandlerPart}
@@ -16,14 +15,14 @@ use Rattle.kom_grammar.specs.declared.items.ItemPart.TheVariants as i
 use Rattle.kom_text.specs.declared.token.TokenKind.TheVariants.{Word, Sign}
 use Rattle.kom_parse.specs.Lexemes.{Lexeme}
 use Rattle.kom_parse.specs.Input.{Read, first, want, eat_if}
-use Rattle.kom_parse.specs.Rules.{is_exactly, eat, name, closes, in_parens, by_bytes, word_among}
+use Rattle.kom_parse.specs.Rules.{is_exactly, eat, closes, in_parens, by_bytes, word_among}
 use Rattle.kom_parse.specs.Spelled.{SpellsParens, parens}
 use Rattle.kom_parse.proofs.Laws.{may_takes, may_misses}
 use Rattle.kom_parse.proofs.Steps.{eat_missing, want_found}
 use Rattle.kom_parse.proofs.Tokens.{exactly_reads, name_reads, eat_takes, by_bytes-is}
 use Rattle.kom_parse.proofs.ListLaws.{parens_whole}
 use Rattle.kom_parse.proofs.BetweenLaws.{SpellsEach, no_more, one_more, each_whole}
-use Rattle.kom_grammar.specs.Words.{w, s, is_name, SpellsName, name as spells_name, relation_of}
+use Rattle.kom_grammar.specs.Words.{w, s, is_name, name as spells_name, relation_of}
 use Rattle.kom_grammar.specs.Expressions.{SpellsInt, plain, minus}
 use Rattle.kom_grammar.specs.Statements.{SpellsBlock, block as a_block, own as own_target, child as child_target}
 use Rattle.kom_grammar.specs.Files as g
@@ -31,7 +30,7 @@ use Rattle.kom_grammar.specs.Files.{SpellsChild, SpellsEnd, SpellsTest, SpellsTe
 use Rattle.kom_exprs.specs.Reading.{int}
 use Rattle.kom_exprs.proofs.ExprReads.{int_reader}
 use Rattle.kom_exprs.proofs.ExprWhole.{int_whole}
-use Rattle.kom_exprs.proofs.NameLaws.{name_reader, name_whole, no_keyword}
+use Rattle.kom_exprs.proofs.NameLaws.{name_whole, no_keyword}
 use Rattle.kom_stmts.proofs.StmtWhole.{names_whole, target_whole, block_whole}
 use Rattle.kom_items.specs.declared.words.ItemWord.{ItemWord}
 use Rattle.kom_items.specs.declared.words.ItemWord.TheVariants as item_is

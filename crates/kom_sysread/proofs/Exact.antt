@@ -1,18 +1,18 @@
 -- What the reader of files gives is what the grammar and the rules say.
-use Rattle.std.proofs.Common.{◌≡◌, ℕ, ◌-◌, ◌≤◌, Bool, true, false, List, [], ◌∷◌, ◌++◌, length, Option, Some, None, refl, sym, ◌∙◌, ap, subst, arith, ◌⊎◌, inl, inr, ◌+◌, suc}
-use Rattle.std.specs.Prelude.{codes, slice_get}
+use Rattle.std.proofs.Common.{◌≡◌, ℕ, ◌-◌, ◌≤◌, Bool, true, false, List, [], ◌∷◌, length, Option, Some, None, refl, sym, ◌∙◌, ap, subst, arith, ◌⊎◌, inl, inr, ◌+◌, suc}
+use Rattle.std.specs.Prelude.{codes}
 use Rattle.kom_system.specs.declared.parts.Parts.{Parts}
 use Rattle.kom_text.specs.declared.token.Token.{Token}
 use Rattle.kom_text.specs.declared.token.TokenKind.{TokenKind}
 use Rattle.kom_text.specs.declared.token.TokenKind.TheVariants.{Word, Number, Sign}
 use Rattle.kom_parse.specs.Lexemes.{Lexeme, lexemes}
-use Rattle.kom_parse.specs.Input.{Outcome, Read, Refuse, first, rest, and_then, want, eat_if}
+use Rattle.kom_parse.specs.Input.{Read, Refuse, first, rest, want, eat_if}
 use Rattle.kom_parse.specs.Rules.{is_exactly, exactly_in, exactly, eat}
 use Rattle.kom_parse.proofs.Covered.{length-lexemes}
 use Rattle.kom_parse.proofs.Broken.{file_spelled, file_broken, file_left}
 use Rattle.kom_grammar.specs.Files.{SpellsFile}
 use Rattle.kom_sysread.specs.Answers.{AreTokens, place_at, is_version, header_break, Breaks, not_begun, no_file, IsTreeOf}
-use Rattle.kom_sysread.specs.Reading.{no_decls, version_by, version, header, decls, file}
+use Rattle.kom_sysread.specs.Reading.{no_decls, version, header, decls, file}
 use Rattle.kom_sysread.proofs.FileReads.{file_reader}
 use Rattle.kom_sysread.proofs.FileWhole.{file_whole}
 

@@ -1,32 +1,28 @@
 -- What the rules of files read is spelled so, and what they refuse had begun one.
-use Rattle.std.proofs.Common.{◌≡◌, ℕ, ◌<◌, Bool, true, false, List, [], ◌∷◌, ◌++◌, length, Option, Some, None, refl, sym, ◌∙◌, ap, subst, arith, append_assoc}
+use Rattle.std.proofs.Common.{◌≡◌, ℕ, ◌<◌, Bool, true, false, List, [], ◌∷◌, ◌++◌, length, Option, Some, None, ◌∙◌, arith, append_assoc}
 use Rattle.std.specs.Prelude.{codes, is_none}
-use Rattle.std.proofs.lemmas.List.{append-nil}
 use Rattle.kom_base.specs.declared.numbers.Dir.{Dir}
 use Rattle.kom_base.specs.declared.numbers.Dir.TheVariants.{Plus, Minus}
 use Rattle.kom_system.specs.declared.parts.Spot.{Spot}
 use Rattle.kom_system.specs.declared.parts.ComponentPart.{ComponentPart}
 use Rattle.kom_system.specs.declared.parts.PortTypePart.{PortTypePart}
-use Rattle.kom_system.specs.declared.parts.EventPart.{EventPart}
-use Rattle.kom_system.specs.declared.parts.RootPart.{RootPart}
 use Rattle.kom_system.specs.declared.parts.Parts.{Parts}
 use Rattle.kom_grammar.specs.declared.items.DeclPart.{DeclPart}
 use Rattle.kom_grammar.specs.declared.items.DeclPart.TheVariants as d
-use Rattle.kom_grammar.specs.declared.items.ItemPart.{ItemPart}
 use Rattle.kom_text.specs.declared.token.TokenKind.TheVariants.{Word, Number, Sign}
 use Rattle.kom_parse.specs.Lexemes.{Lexeme, number_lexeme}
-use Rattle.kom_parse.specs.Input.{Parser, ◌>>=◌, ◌>>◌, pure, by_next, loop}
-use Rattle.kom_parse.specs.Rules.{is_exactly, exactly, eat, name, in_parens, row_turn}
+use Rattle.kom_parse.specs.Input.{◌>>◌, pure}
+use Rattle.kom_parse.specs.Rules.{is_exactly, exactly, name, in_parens}
 use Rattle.kom_parse.specs.Spelled.{SpellsParens, parens, SpellsRow, end as row_ends, next as row_goes_on}
 use Rattle.kom_parse.proofs.Laws.{IsReader, bind, pure_reader, by_next_reader, wider, then_give, if_reader}
 use Rattle.kom_parse.proofs.Tokens.{exactly_then, eat_token_then}
 use Rattle.kom_parse.proofs.ListLaws.{parens_reader}
-use Rattle.kom_parse.proofs.RowLaws.{RowFrom, all_added, row_reader}
-use Rattle.kom_grammar.specs.Words.{w, s, is_name, SpellsName, name as spells_name, end_word}
+use Rattle.kom_parse.proofs.RowLaws.{RowFrom, row_reader}
+use Rattle.kom_grammar.specs.Words.{w, s, is_name, SpellsName, end_word}
 use Rattle.kom_grammar.specs.Files as g
 use Rattle.kom_grammar.specs.Files.{SpellsItem, SpellsListed, SpellsChild, SpellsDecl, SpellsFile, component_of, version_digits}
 use Rattle.kom_exprs.proofs.NameLaws.{name_reader, name_and}
-use Rattle.kom_stmts.specs.Reading.{direction, ends_block}
+use Rattle.kom_stmts.specs.Reading.{ends_block}
 use Rattle.kom_stmts.proofs.StmtReads.{direction_then}
 use Rattle.kom_items.specs.Reading.{child, item}
 use Rattle.kom_items.proofs.ItemReads.{child_reader, item_reader, some_tokens as some_of_item}

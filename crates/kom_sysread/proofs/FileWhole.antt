@@ -1,5 +1,5 @@
 -- What spells a file is read as it.
-use Rattle.std.proofs.Common.{◌≡◌, ℕ, ◌<◌, Bool, true, false, List, [], ◌∷◌, ◌++◌, length, Option, Some, None, refl, sym, ◌∙◌, ap, append_assoc}
+use Rattle.std.proofs.Common.{◌≡◌, ℕ, ◌<◌, Bool, true, false, List, [], ◌∷◌, ◌++◌, length, Option, refl, ◌∙◌, ap, append_assoc}
 use Rattle.std.specs.Prelude.{codes, is_none}
 use Rattle.std.proofs.lemmas.List.{append-nil}
 use Rattle.kom_base.specs.declared.numbers.Dir.{Dir}
@@ -11,20 +11,20 @@ use Rattle.kom_grammar.specs.declared.items.DeclPart.TheVariants as d
 use Rattle.kom_grammar.specs.declared.items.ItemPart.{ItemPart}
 use Rattle.kom_text.specs.declared.token.TokenKind.TheVariants.{Word, Number, Sign}
 use Rattle.kom_parse.specs.Lexemes.{Lexeme, number_lexeme}
-use Rattle.kom_parse.specs.Input.{Read, Parser, ◌>>=◌, ◌>>◌, pure, by_next, first, eat_if, loop}
-use Rattle.kom_parse.specs.Rules.{is_exactly, exactly, eat, name, in_parens, row_turn}
-use Rattle.kom_parse.specs.Spelled.{SpellsParens, parens, SpellsRow, end as row_ends, next as row_goes_on}
+use Rattle.kom_parse.specs.Input.{Read, Parser, first, eat_if, loop}
+use Rattle.kom_parse.specs.Rules.{eat, name, in_parens, row_turn}
+use Rattle.kom_parse.specs.Spelled.{parens, SpellsRow, end as row_ends, next as row_goes_on}
 use Rattle.kom_parse.proofs.Laws.{IsReader}
 use Rattle.kom_parse.proofs.Tokens.{exactly_reads, eat_takes}
 use Rattle.kom_parse.proofs.Steps.{eat_missing}
 use Rattle.kom_parse.proofs.RowLaws.{all_added, row_goes, row_end}
-use Rattle.kom_grammar.specs.Words.{w, s, is_name, SpellsName, name as spells_name, end_word}
+use Rattle.kom_grammar.specs.Words.{w, s, is_name}
 use Rattle.kom_grammar.specs.Files as g
 use Rattle.kom_grammar.specs.Files.{SpellsItem, SpellsListed, SpellsDecl, SpellsFile}
 use Rattle.kom_exprs.proofs.NameLaws.{name_whole}
-use Rattle.kom_stmts.specs.Reading.{direction, ends_block}
+use Rattle.kom_stmts.specs.Reading.{ends_block}
 use Rattle.kom_stmts.proofs.StmtWhole.{names_whole, direction_whole}
-use Rattle.kom_items.specs.Reading.{child, item}
+use Rattle.kom_items.specs.Reading.{item}
 use Rattle.kom_items.proofs.ItemReads.{item_reader, some_tokens as some_of_item}
 use Rattle.kom_items.proofs.ItemWhole.{child_whole, item_whole, begins_item}
 use Rattle.kom_sysread.specs.Reading.{no_lines, add_line, no_items, add_item, no_decls, add_decl, parent, event, line, lines, port_type, items, component, root, decl, version, header, decls, file}

@@ -1,13 +1,13 @@
 -- A text has one answer.
-use Rattle.std.proofs.Common.{◌≡◌, ℕ, ◌<◌, ◌≤◌, List, [], ◌++◌, length, Option, Some, None, refl, sym, ◌∙◌, ap, subst, arith, length-append}
+use Rattle.std.proofs.Common.{◌≡◌, ℕ, List, [], length, Option, Some, None, refl, sym, ◌∙◌, ap, subst, arith, length-append}
 use Rattle.kom_system.specs.declared.parts.Parts.{Parts as Tree}
 use Rattle.kom_text.specs.declared.token.Token.{Token}
 use Rattle.kom_text.specs.declared.token.Tokens.TheVariants.{BadByte, NumberTooBig}
-use Rattle.kom_text.specs.Pieces.{Piece, IsBad}
+use Rattle.kom_text.specs.Pieces.{IsBad}
 use Rattle.kom_text.specs.Answers.{tokens_from, too_big_from, end_from, IsReadTo, IsAnswer as IsTokenized}
 use Rattle.kom_text.proofs.Once.{cut-once}
-use Rattle.kom_parse.specs.Lexemes.{Lexeme, lexemes}
-use Rattle.kom_parse.specs.Input.{Outcome, Read}
+use Rattle.kom_parse.specs.Lexemes.{lexemes}
+use Rattle.kom_parse.specs.Input.{Read}
 use Rattle.kom_parse.specs.Spelled.{IsBrokenAt}
 use Rattle.kom_parse.proofs.Broken as broken
 use Rattle.kom_grammar.specs.Files.{SpellsFile}

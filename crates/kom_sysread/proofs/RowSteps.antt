@@ -1,5 +1,5 @@
 -- What methods that read rows need of the rules.
-use Rattle.std.proofs.Common.{◌≡◌, ◌≢◌, ℕ, ◌<◌, Bool, true, false, List, [], ◌∷◌, length, Option, Some, None, refl, arith}
+use Rattle.std.proofs.Common.{◌≡◌, ◌≢◌, ◌<◌, Bool, true, false, List, [], ◌∷◌, length, refl, arith}
 use Rattle.std.specs.Prelude.{is_none}
 use Rattle.kom_base.specs.declared.numbers.Dir.{Dir}
 use Rattle.kom_system.specs.declared.parts.Spot.{Spot}

@@ -1,12 +1,11 @@
 -- Adding one after another makes what the grammar says of the whole row.
-use Rattle.std.proofs.Common.{◌≡◌, ℕ, Bool, List, [], ◌∷◌, ◌++◌, refl, sym, ◌∙◌, ap, subst, append_assoc}
+use Rattle.std.proofs.Common.{◌≡◌, ℕ, Bool, List, [], ◌∷◌, ◌++◌, refl, ◌∙◌, ap, append_assoc}
 use Rattle.std.specs.List.{filter_map}
 use Rattle.std.proofs.lemmas.List.{append-nil}
 use Rattle.std.proofs.lemmas.List.Elements.{filter_map-append}
 use Rattle.kom_base.specs.declared.numbers.Dir.{Dir}
 use Rattle.kom_base.specs.declared.numbers.Dir.TheVariants.{Plus, Minus}
 use Rattle.kom_system.specs.declared.parts.Spot.{Spot}
-use Rattle.kom_system.specs.declared.parts.ComponentPart.{ComponentPart}
 use Rattle.kom_system.specs.declared.parts.PortTypePart.{PortTypePart}
 use Rattle.kom_system.specs.declared.parts.Parts.{Parts}
 use Rattle.kom_grammar.specs.declared.items.DeclPart.{DeclPart}

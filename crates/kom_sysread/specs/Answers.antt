@@ -1,5 +1,5 @@
 -- What the reader of system files answers.
-use Rattle.std.specs.Prelude.{◌≡◌, ℕ, Bool, true, false, ◌||◌, if◌then◌else◌, List, [], length, slice_get, Option, Some, None, codes}
+use Rattle.std.specs.Prelude.{◌≡◌, ℕ, Bool, ◌||◌, if◌then◌else◌, List, [], length, slice_get, Option, Some, None, codes}
 use Rattle.kom_system.specs.declared.parts.Parts.{Parts as Tree}
 use Rattle.kom_text.specs.declared.token.Token.{Token}
 use Rattle.kom_text.specs.declared.token.TokenKind.TheVariants.{Word, Number, Sign}

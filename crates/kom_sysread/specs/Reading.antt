@@ -1,12 +1,10 @@
 -- How files are read from left to right, a function for each method.
-use Rattle.std.specs.Prelude.{ℕ, Bool, true, false, List, [], ◌∷◌, Option, Some, None, is_none, codes, if◌then◌else◌}
+use Rattle.std.specs.Prelude.{ℕ, Bool, true, false, [], Option, Some, None, is_none, codes, if◌then◌else◌}
 use Rattle.kom_base.specs.declared.numbers.Dir.{Dir}
 use Rattle.kom_base.specs.declared.numbers.Dir.TheVariants.{Plus, Minus}
 use Rattle.kom_system.specs.declared.parts.Spot.{Spot}
 use Rattle.kom_system.specs.declared.parts.ComponentPart.{ComponentPart}
-use Rattle.kom_system.specs.declared.parts.EventPart.{EventPart}
 use Rattle.kom_system.specs.declared.parts.PortTypePart.{PortTypePart}
-use Rattle.kom_system.specs.declared.parts.RootPart.{RootPart}
 use Rattle.kom_system.specs.declared.parts.Parts.{Parts}
 use Rattle.kom_grammar.specs.declared.items.DeclPart.{DeclPart}
 use Rattle.kom_grammar.specs.declared.items.DeclPart.TheVariants as d
