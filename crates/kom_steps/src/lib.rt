@@ -4,6 +4,7 @@
 mod body;
 mod children;
 mod events;
+mod fails;
 mod handling;
 mod names;
 mod ports;
@@ -11,5 +12,6 @@ mod run;
 mod subscriptions;
 mod wires;
 
+pub use fails::fails_fit;
 pub use handling::{Handling, Setting};
 pub use run::run_statements;
