@@ -76,9 +76,6 @@ exprs_and q L r = bind (in_parens expr) q (SpellsParens SpellsExpr) L (parens_re
 -- ---- statements without blocks
 
 module _ (two : Bool) (levels : ℕ) where
-  Spells : List Lexeme → StmtPart → Type 0
-  Spells = SpellsStmt two levels
-
   let_text : (a : ℕ) {t u : List Lexeme} {n : Spot} {x : ExprPart} → SpellsName t n → SpellsValue u x → SpellsStmt two levels (w (codes "let") a ∷ (t ++ u)) (st.Let n x)
   let_text a d (given b e d') = g.let_stmt a b e d d'
 

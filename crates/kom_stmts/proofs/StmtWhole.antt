@@ -12,7 +12,7 @@ use Rattle.kom_system.specs.declared.parts.StmtPart.TheVariants as st
 use Rattle.kom_text.specs.declared.token.TokenKind.TheVariants.{Word, Sign}
 use Rattle.kom_text.specs.Numbers.{decimal}
 use Rattle.kom_parse.specs.Lexemes.{Lexeme, number_lexeme}
-use Rattle.kom_parse.specs.Input.{Read, Parser, first, eat_if, want, loop}
+use Rattle.kom_parse.specs.Input.{Read, first, eat_if, want, loop}
 use Rattle.kom_parse.specs.Rules.{name, is_exactly, eat, in_parens, closes, by_bytes, word_among, onto, row_turn}
 use Rattle.kom_parse.specs.Spelled.{SpellsParens, parens}
 use Rattle.kom_parse.proofs.Laws.{may_takes, may_misses}
@@ -253,9 +253,6 @@ module _ (two : Bool) where
   while_whole levels a t u y ys after d d' r =
       stmt_keyword two levels key.While a _ (some_level levels key.While d' refl)
       ∙ rw (append_assoc t u after, expr_whole t y (u ++ after) d (stops_at_block d' after), r after) refl
-
-  row_at : ℕ → List StmtPart → Parser (List StmtPart)
-  row_at levels = loop (row_turn ends_block (stmt two levels) onto)
 
   block_step : (levels a b : ℕ) (t : List Lexeme) (xs : List StmtPart) (after : List Lexeme)
       → ((before : List StmtPart) (rest : List Lexeme) (c : ℕ) → loop (row_turn ends_block (stmt two levels) onto) before (t ++ s (codes "}") c ∷ rest) ≡ Read (before ++ xs) (s (codes "}") c ∷ rest))
