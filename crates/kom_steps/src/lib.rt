@@ -10,6 +10,8 @@ mod names;
 mod ports;
 mod run;
 mod subscriptions;
+#[cfg(test)]
+mod tests;
 mod wires;
 
 pub use fails::fails_fit;
