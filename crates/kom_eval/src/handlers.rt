@@ -26,7 +26,8 @@ fn handles_control(control: &Control, on: &On) -> bool
     }
 }
 
-fn handles_event(types: &EventTypes, port: u8, event: &Event, on: &On) -> bool
+/// Whether a handler runs for an event at the outside of a port.
+pub fn handles_event(types: &EventTypes, port: u8, event: &Event, on: &On) -> bool
     ensures { result ≡ handles_event types.now port event.now on.now }
 {
     match on {
@@ -64,7 +65,7 @@ fn runs(system: &System, kind: &Kind, item: &Item, h: u8) -> bool
 }
 
 /// The numbers of the subscribed handlers that run for the item, in order of subscription.
-fn subscribed(
+pub fn subscribed(
     alloc: Global,
     system: &System,
     kind: &Kind,

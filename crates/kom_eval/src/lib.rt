@@ -5,5 +5,7 @@ mod handlers;
 mod item;
 mod outcome;
 mod prepare;
+#[cfg(test)]
+mod tests;
 
 pub use outcome::{Reacted, react};
