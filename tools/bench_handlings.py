@@ -5,7 +5,7 @@ and a program that runs `while x < 10000 { x = x + 1; }` a thousand times, build
 (which proves it), and prints the nanoseconds per turn of the best of five runs. Run it at the top of
 the repository:
 
-    python3 tools/bench_handlings.py /tmp/bench
+    python3 tools/bench_handlings.py FOLDER
 """
 
 import pathlib
