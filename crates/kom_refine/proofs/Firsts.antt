@@ -174,7 +174,7 @@ module _ (S : Declarations) where
   unfolding next
   next_by P c h = ap (λ k. either (option_map Control k) (option_map (λ a. a.item) (least (λ a b. is_earlier a.no b.no) (candidates S P c)))) h
 
-  front_is : (P : History) (m : State) (c x : ℕ) (d : Dir) → StandsAt S (start_of P) m → option_map (λ a. a.no) (candidate S P c (x, d)) ≡ front_for c (m.queues x d)
+  pub front_is : (P : History) (m : State) (c x : ℕ) (d : Dir) → StandsAt S (start_of P) m → option_map (λ a. a.no) (candidate S P c (x, d)) ≡ front_for c (m.queues x d)
   front_is P m c x d s = candidate_front P c x d ∙ ap (front_for c) (sym (s.queues x d))
 
 pub takes_next : NextIsFirst

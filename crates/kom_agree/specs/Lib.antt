@@ -1,0 +1,4 @@
+pub mod Agrees
+pub mod Bodies
+pub mod Effects
+pub mod Laws

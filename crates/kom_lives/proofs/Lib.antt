@@ -1,0 +1,4 @@
+pub mod Lineage
+pub mod Lives
+pub mod Plugged
+pub mod Single

@@ -1,0 +1,5 @@
+pub mod Asked
+pub mod Moving
+pub mod Outward
+pub mod Room
+pub mod Standing
