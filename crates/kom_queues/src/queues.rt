@@ -61,6 +61,7 @@ impl Queues {
         ensures same { (y : ℕ) (e : Dir) → content_of self.new y e ≡ content_of self.old y e }
         ensures not_less { (y : ℕ) (e : Dir) → spare_of self.old y e ≤ spare_of self.new y e }
         ensures there { (y : ℕ) → is_there self.new y ≡ is_there self.old y }
+        ensures slots { (y : ℕ) → IsSome (slot_of self.old y) → IsSome (slot_of self.new y) }
         ensures room { OnOk result (IsSome (slot_of self.new x)) }
         ensures ok { OnOk result (n ≤ spare_of self.new x d) }
     {
@@ -76,6 +77,7 @@ impl Queues {
         ensures same { (y : ℕ) (e : Dir) → content_of self.new y e ≡ content_of self.old y e }
         ensures not_less { (y : ℕ) (e : Dir) → spare_of self.old y e ≤ spare_of self.new y e }
         ensures there { (y : ℕ) → is_there self.new y ≡ is_there self.old y }
+        ensures slots { (y : ℕ) → IsSome (slot_of self.old y) → IsSome (slot_of self.new y) }
         ensures room { IsSome (slot_of self.new x) }
         ensures ok { OnOk result (n ≤ spare_of self.new x d) }
     {

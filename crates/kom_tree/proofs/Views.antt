@@ -9,7 +9,7 @@ use Rattle.std.proofs.lemmas.List.Quantifiers.{position-Some}
 use Rattle.std.proofs.lemmas.Bool.{lt-ltb, le-ltb, eqb-true, eq-eqb}
 use Rattle.kom_base.specs.Lists.{first}
 use Rattle.kom_tree.specs.declared.family.Origin.{Origin}
-use Rattle.kom_tree.specs.Forest.{Instance, line_of, parent_of, is_alive, is_slot, hangs_in, occupant, line_under}
+use Rattle.kom_tree.specs.Forest.{Instance, line_of, parent_of, is_alive, is_slot, hangs_in, occupant, line_under, IsGrown}
 use Rattle.kom_tree.specs.Parts.{parent_at, lives, sits, grown, made, marked, IsForest, IsSitter}
 
 pub past : {X : Type 0} (xs : List X) (k : ℕ) → slice_get xs k ≡ None → length xs ≤ k
@@ -234,3 +234,20 @@ module _ (os : List Origin) (bs : List Bool) (f : IsForest os bs) where
       at : (q : Option (ℕ × ℕ)) → parent_at os c ≡ q → IfSome q (λ q. is_alive all q.0 ≡ true)
       at None e = tt
       at (Some q) e = alive_is q.0 ∙ f.rooted c q (sym (alive_is c) ∙ h) e
+
+  -- a living instance sits in its slot
+  sits_up : (c : ℕ) (q : ℕ × ℕ) → is_alive all c ≡ true → parent_of all c ≡ Some q → sits os bs q.0 q.1 c ≡ true
+  sits_up c q h e =
+      ap (λ b. b && hangs_in q.0 q.1 (parent_at os c)) (sym (alive_is c) ∙ h)
+      ∙ ap (hangs_in q.0 q.1) (sym (parent_is c) ∙ e) ∙ slot_in q.0 q.1
+
+  pub is_grown : IsGrown all
+  is_grown = record {
+    lines = λ c. line_is c ∙ ap (line_under all) (sym (parent_is c));
+    older = λ c q e. f.older c q (sym (parent_is c) ∙ e);
+    rooted = λ c q h e. alive_is q.0 ∙ f.rooted c q (sym (alive_is c) ∙ h) (sym (parent_is c) ∙ e);
+    seated = λ c q h e. sitter_is q.0 q.1 (Some c) (sits_up c q h e);
+    sitting = λ p s c e.
+        let here = occupant_sits p s c e in
+        (alive_is c ∙ both_left _ _ here, parent_is c ∙ in_slot p s (parent_at os c) (both_right (lives bs c) _ here));
+  }

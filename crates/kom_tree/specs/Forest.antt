@@ -1,5 +1,5 @@
 -- What the tree of instances is seen as, and what its calls make of it.
-use Rattle.std.specs.Prelude.{◌≡◌, ℕ, Bool, true, false, not, ◌&&◌, ◌==◌, List, [], ◌∷◌, ◌++◌, slice_get, position, Option, Some, None}
+use Rattle.std.specs.Prelude.{◌≡◌, ℕ, ◌<◌, Bool, true, false, not, ◌&&◌, ◌==◌, List, [], ◌∷◌, ◌++◌, slice_get, position, Option, Some, None}
 use Rattle.std.specs.List.{list_any}
 use Rattle.std.specs.Option.{option_map_or}
 use Rattle.kom_base.specs.Lists.{first}
@@ -51,3 +51,20 @@ with_child is q kind = is ++ record { kind = kind; line = line_under is q; livin
 -- the instance after all that lies in slot s of p ended
 abbrev pub felled : ℕ → ℕ → Instance → Instance
 felled p s i = record i { living = i.living && not (list_any (is_slot p s) i.line) }
+
+abbrev pub is_under : ℕ → Option (ℕ × ℕ) → Bool
+is_under p q = option_map_or (λ q. q.0 == p) q false
+
+-- a living child of p; none where p has none
+abbrev pub IsLivingChild : List Instance → ℕ → Option ℕ → Type 0
+IsLivingChild is p None = (c : ℕ) → is_alive is c ≡ true → is_under p (parent_of is c) ≡ false
+IsLivingChild is p (Some c) = (is_alive is c ≡ true) × (is_under p (parent_of is c) ≡ true)
+
+-- each line goes on with that of the parent, which is older; a living instance has a living parent and
+-- is the one in its slot
+pub record IsGrown (is : List Instance) : Type 0 where
+  pub lines : (c : ℕ) → line_of is c ≡ line_under is (parent_of is c)
+  pub older : (c : ℕ) (q : ℕ × ℕ) → parent_of is c ≡ Some q → q.0 < c
+  pub rooted : (c : ℕ) (q : ℕ × ℕ) → is_alive is c ≡ true → parent_of is c ≡ Some q → is_alive is q.0 ≡ true
+  pub seated : (c : ℕ) (q : ℕ × ℕ) → is_alive is c ≡ true → parent_of is c ≡ Some q → occupant is q.0 q.1 ≡ Some c
+  pub sitting : (p s c : ℕ) → occupant is p s ≡ Some c → (is_alive is c ≡ true) × (parent_of is c ≡ Some (p, s))

@@ -1,8 +1,8 @@
 ghost use Rattle.std.specs.Prelude.{◌≡◌, ℕ, ◌+◌, ◌-◌, ◌<◌, ◌≤◌, ◌↔◌, ◌&&◌, not, if◌then◌else◌, true, [], length, map, IsTrue, IsSome, IsNone, IfSome, OnOk, Some, None};
-ghost use Rattle.kom_tree.specs.Forest.{parent_of, line_of, line_under, is_alive, is_slot, occupant, hangs_in, MayHang, with_child, felled};
+ghost use Rattle.kom_tree.specs.Forest.{parent_of, line_of, line_under, is_alive, is_slot, occupant, hangs_in, MayHang, with_child, felled, IsLivingChild, IsGrown};
 
 use crate::family::{Family, Links, Origin};
-use crate::fell::{end_below, end_one, hang, is_living, parent_in, put, sitter, unlink};
+use crate::fell::{child_of, end_below, end_one, hang, is_living, parent_in, put, sitter, unlink};
 use kom_base::Comp;
 use std::alloc::{AllocError, Global};
 use std::marker::Model;
@@ -100,6 +100,21 @@ impl Tree {
         sitter(&self.family, &self.living, c, slot)
     }
 
+    /// A living child of a living instance, the youngest; `None` exactly where it has none.
+    pub fn youngest(&self, c: Comp) -> Option<Comp>
+        requires { is_alive self.now.instances c ≡ true }
+        ensures { IsLivingChild self.now.instances c result }
+    {
+        child_of(&self.family, c)
+    }
+
+    /// How the instances hang together. The call gives a proof this fact, and does nothing else.
+    pub fn well_grown(&self)
+        ensures { IsGrown self.now.instances }
+    {
+        let _room = self.room;
+    }
+
     /// Adds an instance in an empty slot of a living one, or with no parent as the first of all.
     /// Its number, which comes back, is the count of the instances before it. It takes no memory.
     pub fn add(&mut self, parent: Option<(Comp, u8)>, kind: u16) -> Comp
@@ -155,6 +170,8 @@ mod tests {
         assert_eq!(rt; tree.child(root, 2), Some(child));
         assert_eq!(rt; tree.parent(child), Some((root, 2)));
         let below = tree.add(Some((child, 0)), 9);
+        assert_eq!(rt; tree.youngest(root), Some(child));
+        assert_eq!(rt; tree.youngest(below), None);
         tree.remove(root, 2);
         assert!(rt; tree.alive(root));
         assert!(rt; !tree.alive(child));

@@ -1,5 +1,5 @@
 use Rattle.std.proofs.Common.{length, sym, ap, ◌∙◌, arith}
-use Rattle.kom_tree.specs.Forest.{Forest, parent_of, line_of, line_under}
+use Rattle.kom_tree.specs.Forest.{Forest, parent_of}
 use Rattle.kom_tree.proofs.Views.{parent_is, line_is, root_is, parent_older, parent_living, length-all}
 use Rattle.kom_tree.proofs.tree.Tree.parent.Goals as goal
 

@@ -1,0 +1,16 @@
+pub mod Aiming
+pub mod Begun
+pub mod Channels
+pub mod Conditions
+pub mod Creating
+pub mod Ending
+pub mod Felling
+pub mod FirstFronts
+pub mod Halves
+pub mod Keeping
+pub mod Lines
+pub mod Numbered
+pub mod Reading
+pub mod Relinking
+pub mod Removing
+pub mod Reserving

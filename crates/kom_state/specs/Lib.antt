@@ -1,0 +1,11 @@
+pub mod Shelves
+pub mod Insides
+pub mod Laws
+pub mod Openings
+pub mod Parts
+pub mod Plantings
+pub mod Readings
+pub mod Removals
+pub mod Rooms
+pub mod Sound
+pub mod Steps
