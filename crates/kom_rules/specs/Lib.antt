@@ -1,0 +1,9 @@
+pub mod Names
+pub mod Spaces
+pub mod Walks
+pub mod Declaring
+pub mod Fitting
+pub mod Handling
+pub mod Broken
+pub mod Compute
+pub mod Examples
