@@ -1,0 +1,4 @@
+pub mod Runs
+pub mod Onward
+pub mod Sorting
+pub mod Fits

@@ -1,0 +1,4 @@
+pub mod Headers
+pub mod RowWhole
+pub mod Texts
+pub mod Once

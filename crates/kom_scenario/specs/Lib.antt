@@ -1,0 +1,12 @@
+pub mod Names
+pub mod Named
+pub mod Scenes
+pub mod Numbers
+pub mod Sound
+pub mod Placed
+pub mod Rules
+pub mod Seen
+pub mod Answers
+pub mod Judged
+pub mod Early
+pub mod Checks

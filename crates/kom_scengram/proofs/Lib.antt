@@ -1,0 +1,4 @@
+pub mod Readers
+pub mod RowSteps
+pub mod Whole
+pub mod Exact
