@@ -1,0 +1,6 @@
+mod Counts
+mod Lines
+mod Orders
+mod Records
+mod Handled
+mod Jobs
