@@ -1,0 +1,25 @@
+use Rattle.std.proofs.Common.{◌≡◌, ◌+◌, ◌∷◌, [], ◌++◌, ap, ◌∙◌, sym, length, get_or, take, None, arith}
+use Rattle.kom_scribe.specs.declared.draft.Change.TheVariants.{Born}
+use Rattle.kom_scribe.specs.Drafts.{occupant_in, births, known_occupant}
+use Rattle.kom_scribe.proofs.Slots.{one_change_more, one_birth_more, few_births, fewer_births}
+use Rattle.kom_scribe.proofs.known.Known.occupant.Goals as goal
+
+pub overflow_add-next : goal.overflow_add-next
+overflow_add-next c =
+    let xs = c.as_slice-change-items.result.now in
+    let i = c.loop-change.change-index in
+    omega (arith, c.loop-change.invariant.1, c.births_of-next.ensures, one_birth_more xs i (Born None) c.loop-change-test.true, fewer_births xs (i + 1), few_births xs, ap length c.as_slice-change-items.ensures.value, c.args.self.now.kinds.small, c.args.draft.now.changes.small)
+
+pub loop-change-preserved : goal.loop-change-preserved
+loop-change-preserved c =
+    let xs = c.as_slice-change-items.result.now in
+    let i = c.loop-change.change-index in
+    let x = get_or xs i (Born None) in
+    let n = length c.args.self.now.kinds.items in
+    let before = occupant_in c.args.at.comp c.args.at.slot n (known_occupant c.args.self.now c.args.at.comp c.args.at.slot) (take i xs) in (
+      c.occupant_after-found.ensures
+          ∙ ap (λ m. occupant_in c.args.at.comp c.args.at.slot m c.loop-change.found (x ∷ [])) c.loop-change.invariant.1
+          ∙ ap (λ o. occupant_in c.args.at.comp c.args.at.slot (n + births (take i xs)) o (x ∷ [])) c.loop-change.invariant.0
+          ∙ sym (one_change_more c.args.at.comp c.args.at.slot n (known_occupant c.args.self.now c.args.at.comp c.args.at.slot) xs i (Born None) c.loop-change-test.true),
+      omega (arith, c.loop-change.invariant.1, c.births_of-next.ensures, one_birth_more xs i (Born None) c.loop-change-test.true),
+    )
