@@ -1,11 +1,13 @@
 -- Laws of words.
-use Rattle.std.proofs.Common.{◌≡◌, ◌≤◌, ◌∷◌, ℕ, List, [], Option, Some, None, length, refl, subst, arith, inr}
-use Rattle.std.specs.Prelude.{slice_get, IfSome, MatchOption}
+use Rattle.std.proofs.Common.{◌≡◌, ◌≢◌, ◌≤◌, ap, ◌∷◌, ℕ, List, [], Option, Some, None, length, refl, subst, arith, inl, inr}
+use Rattle.std.specs.Prelude.{slice_get, IfSome, MatchOption, codes, decimal}
 use Rattle.kom_io.specs.Faults.{Rose}
+use Rattle.kom_io.specs.Texts.{AddsPrefix}
 use Rattle.kompics.specs.declared.top.Answer.{Answer}
 use Rattle.kompics.specs.declared.top.Answer.TheVariants as answer
 use Rattle.kompics.specs.Small.Systems.{System, IsSystem}
-use Rattle.kompics.specs.Top.{sim, Files, IsSecond, IsAnswer}
+use Rattle.kompics.specs.Small.Records.{History}
+use Rattle.kompics.specs.Top.{sim, IsNoCommand, Files, IsSecond, IsAnswer, IsMade, IsOutput, IsSaid}
 
 -- a list of three
 pub three : {X : Type 0} (xs : List X) (a b c : X) → length xs ≡ 3 → slice_get xs 0 ≡ Some a → slice_get xs 1 ≡ Some b → slice_get xs 2 ≡ Some c → xs ≡ a ∷ b ∷ c ∷ []
@@ -14,6 +16,50 @@ three (x ∷ []) a b c n p q r = absurd (cc)
 three (x ∷ y ∷ []) a b c n p q r = absurd (cc)
 three (x ∷ y ∷ z ∷ []) a b c n p q r = cc
 three (x ∷ y ∷ z ∷ w ∷ xs) a b c n p q r = absurd (omega arith)
+
+-- ---- words that are no command
+
+pub not_three : (words : List (List ℕ)) → length words ≢ 3 → IsNoCommand words
+not_three words e = (
+  λ s z h. e (ap length h),
+  λ n some most h. e (ap length h),
+  λ n some most h. e (ap length h),
+)
+
+head_is : (a b : List ℕ) (xs ys : List (List ℕ)) → a ∷ xs ≡ b ∷ ys → a ≡ b
+head_is a b xs ys e = cc
+
+second_is : (a b c d : List ℕ) (xs ys : List (List ℕ)) → a ∷ b ∷ xs ≡ c ∷ d ∷ ys → b ≡ d
+second_is a b c d xs ys e = cc
+
+third_is : (a b c d x y : List ℕ) → a ∷ b ∷ c ∷ [] ≡ d ∷ x ∷ y ∷ [] → c ≡ y
+third_is a b c d x y e = cc
+
+pub no_command : (a b c : List ℕ) → a ≢ codes "sim" → a ≢ codes "make" → IsNoCommand (a ∷ b ∷ c ∷ [])
+no_command a b c f g = (
+  λ s z h. f (head_is a _ _ _ h),
+  λ n some most h. g (head_is a _ _ _ h),
+  λ n some most h. g (head_is a _ _ _ h),
+)
+
+no_sim : (b c s z : List ℕ) → codes "make" ∷ b ∷ c ∷ [] ≡ sim s z → ⊥
+no_sim b c s z h = let e : codes "make" ≡ codes "sim" = head_is _ _ _ _ h in cc
+
+pub no_number : (b c : List ℕ) → ((n : ℕ) → 1 ≤ n → n ≤ 30 → b ≢ decimal n) → IsNoCommand (codes "make" ∷ b ∷ c ∷ [])
+no_number b c f = (
+  λ s z h. no_sim b c s z h,
+  λ n some most h. f n some most (second_is _ b _ _ _ _ h),
+  λ n some most h. f n some most (second_is _ b _ _ _ _ h),
+)
+
+pub no_text : (b c : List ℕ) → c ≢ codes "system" → c ≢ codes "scenario" → IsNoCommand (codes "make" ∷ b ∷ c ∷ [])
+no_text b c f g = (
+  λ s z h. no_sim b c s z h,
+  λ n some most h. f (third_is _ _ c _ _ _ h),
+  λ n some most h. g (third_is _ _ c _ _ _ h),
+)
+
+-- ---- files
 
 -- a fact of what is told
 pub told : {X : Type 0} (file : Option X) (x : X) (P : X → Type 0) → IfSome file P → file ≡ Some x → P x
@@ -34,17 +80,17 @@ pub rose_after : (a b c : ℕ) → a ≤ b → Rose b c → Rose a c
 rose_after a b c h r = omega arith
 
 -- the answer of the second file is that of the call
-pub second_answers : (a : Answer) (words : List (List ℕ)) (files : Files) (s z : List ℕ) (S : System) (before mid after : List ℕ → ℕ) → words ≡ sim s z → ((st : List ℕ) → files s ≡ Some st → IsSystem st S) → IsSecond a (files z) S (mid z) (after z) → ((n : List ℕ) → before n ≤ mid n) → IsAnswer a words files before after
-second_answers answer.NoCommand words files s z S before mid after w accepted h up = absurd h
-second_answers answer.NoSystem words files s z S before mid after w accepted h up = absurd h
-second_answers answer.NoScenario words files s z S before mid after w accepted h up = record {
+pub second_answers : (system scenario : List ℕ) (a : Answer) (words : List (List ℕ)) (files : Files) (s z : List ℕ) (S : System) (before mid after : List ℕ → ℕ) → words ≡ sim s z → ((st : List ℕ) → files s ≡ Some st → IsSystem st S) → IsSecond a (files z) S (mid z) (after z) → ((n : List ℕ) → before n ≤ mid n) → IsAnswer system scenario a words files before after
+second_answers system scenario answer.NoCommand words files s z S before mid after w accepted h up = absurd h
+second_answers system scenario answer.NoSystem words files s z S before mid after w accepted h up = absurd h
+second_answers system scenario answer.NoScenario words files s z S before mid after w accepted h up = record {
   s = s;
   z = z;
   words_are = w;
   kept_is = refl;
   file = inr ((λ st e. (S, accepted st e), λ st zt e f. (S, accepted st e, h zt f)), refl);
 }
-second_answers (answer.Trace text kept) words files s z S before mid after w accepted h up = record {
+second_answers system scenario (answer.Trace text kept) words files s z S before mid after w accepted h up = record {
   s = s;
   z = z;
   R = kept;
@@ -52,10 +98,21 @@ second_answers (answer.Trace text kept) words files s z S before mid after w acc
   kept_is = refl;
   run = λ st zt e f. let r = h zt f in (S, (r.0, accepted st e, r.1, r.2, r.3));
 }
-second_answers answer.ShelfFault words files s z S before mid after w accepted h up = record {
+second_answers system scenario (answer.Made text) words files s z S before mid after w accepted h up = absurd h
+second_answers system scenario answer.ShelfFault words files s z S before mid after w accepted h up = record {
   s = s;
   z = z;
   words_are = w;
   fault = inr (λ st e. (S, accepted st e), rose_after (before z) (mid z) (after z) (up z) h);
 }
-second_answers answer.Memory words files s z S before mid after w accepted h up = tt
+second_answers system scenario answer.Memory words files s z S before mid after w accepted h up = tt
+
+-- ---- what was said
+
+-- a sink that fails takes a prefix of a text that was made
+pub said_made : (system scenario : List ℕ) (words : List (List ℕ)) (files : Files) (kept : Option History) (text line : List ℕ) (status : ℕ) (before after : Option (List ℕ)) (f f' : ℕ) → kept ≡ None → line ≡ text
+    → IsMade system scenario words None text → IsSaid status 0 line before after f f' → status ≡ 6 → Rose f f' × ((x : List ℕ) × IsOutput system scenario words files kept x × AddsPrefix x before after)
+said_made system scenario words files kept text line status before after f f' none same made (inl k) six = absurd (let zero : status ≡ 0 = k.0 in omega (arith, zero, six))
+said_made system scenario words files kept text line status before after f f' none same made (inr k) six =
+    let made' : IsMade system scenario words kept line = rw (none, same) made in
+    (k.1, (line, inr (inl made'), k.2))

@@ -1,11 +1,14 @@
 -- What the program answers: its statuses, its output and the record that it keeps.
-use Rattle.std.specs.Prelude.{◌≡◌, ◌≢◌, ◌⊎◌, ◌++◌, ℕ, List, [], ◌∷◌, Option, Some, None, codes}
+use Rattle.std.specs.Prelude.{◌≡◌, ◌≢◌, ◌⊎◌, ◌++◌, ℕ, ◌≤◌, List, [], ◌∷◌, Option, Some, None, codes, decimal}
 use Rattle.std.specs.Option.{option_map}
 use Rattle.kom_io.specs.Faults.{Rose}
 use Rattle.kom_io.specs.Texts.{AddsPrefix}
 use Rattle.kompics.specs.Small.Systems.{System, Plan, IsSystem, IsScenario}
 use Rattle.kompics.specs.Small.Records.{History, IsSimulation}
 use Rattle.kompics.specs.Small.Traces.{trace_text, newline}
+use Rattle.kom_make.specs.Texts.{system_text, scenario_text}
+use Rattle.kompics.specs.declared.command.Command.{Command}
+use Rattle.kompics.specs.declared.command.Command.TheVariants as command
 use Rattle.kompics.specs.declared.top.Answer.{Answer}
 use Rattle.kompics.specs.declared.top.Answer.TheVariants as answer
 
@@ -17,8 +20,12 @@ Files = List ℕ → Option (List ℕ)
 abbrev pub sim : List ℕ → List ℕ → List (List ℕ)
 sim s z = codes "sim" ∷ s ∷ z ∷ []
 
+-- the words of a command that writes a generated text
+abbrev pub make : ℕ → List ℕ → List (List ℕ)
+make n what = codes "make" ∷ decimal n ∷ what ∷ []
+
 abbrev pub usage_line : List ℕ
-usage_line = codes "usage: kompics sim S Z" ++ newline
+usage_line = codes "usage: kompics sim S Z | make N system|scenario" ++ newline
 
 abbrev pub system_refusal : List ℕ
 system_refusal = codes "refused system rule 0 at 1:1" ++ newline
@@ -28,7 +35,16 @@ scenario_refusal = codes "refused scenario rule 0 at 1:1" ++ newline
 
 -- the words are no command
 abbrev pub IsNoCommand : List (List ℕ) → Type 0
-IsNoCommand words = (s z : List ℕ) → words ≢ sim s z
+IsNoCommand words =
+    ((s z : List ℕ) → words ≢ sim s z)
+    × ((n : ℕ) → 1 ≤ n → n ≤ 30 → words ≢ make n (codes "system"))
+    × ((n : ℕ) → 1 ≤ n → n ≤ 30 → words ≢ make n (codes "scenario"))
+
+-- the words are those of the command
+abbrev pub IsCommand : Command → List (List ℕ) → Type 0
+IsCommand (command.Sim s z) words = words ≡ sim s.now z.now
+IsCommand (command.MakeSystem n) words = (1 ≤ n) × (n ≤ 30) × (words ≡ make n (codes "system"))
+IsCommand (command.MakeScenario n) words = (1 ≤ n) × (n ≤ 30) × (words ≡ make n (codes "scenario"))
 
 -- where the file is told, it is that of a small system
 abbrev pub IsAccepted : Files → List ℕ → Type 0
@@ -71,6 +87,14 @@ pub record IsRefused (words : List (List ℕ)) (files : Files) (kept : Option Hi
   pub kept_is : kept ≡ None
   pub file : (IsNoSystem files s × (output ≡ system_refusal)) ⊎ (IsNoScenario files s z × (output ≡ scenario_refusal))
 
+-- the output of a generated text, of these templates
+pub record IsMade (system scenario : List ℕ) (words : List (List ℕ)) (kept : Option History) (output : List ℕ) : Type 0 where
+  pub n : ℕ
+  pub some : 1 ≤ n
+  pub most : n ≤ 30
+  pub kept_is : kept ≡ None
+  pub text : ((words ≡ make n (codes "system")) × (output ≡ system_text system n)) ⊎ ((words ≡ make n (codes "scenario")) × (output ≡ scenario_text scenario n))
+
 -- the output where the words are no command
 pub record IsUsage (words : List (List ℕ)) (kept : Option History) (output : List ℕ) : Type 0 where
   pub no_command : IsNoCommand words
@@ -78,8 +102,9 @@ pub record IsUsage (words : List (List ℕ)) (kept : Option History) (output : L
   pub line : output ≡ usage_line
 
 -- the output of a call, which may be lost on its way
-abbrev pub IsOutput : List (List ℕ) → Files → Option History → List ℕ → Type 0
-IsOutput words files kept output = IsTraced words files kept output ⊎ (IsRefused words files kept output ⊎ IsUsage words kept output)
+abbrev pub IsOutput : (system scenario : List ℕ) → List (List ℕ) → Files → Option History → List ℕ → Type 0
+IsOutput system scenario words files kept output =
+    IsTraced words files kept output ⊎ (IsMade system scenario words kept output ⊎ (IsRefused words files kept output ⊎ IsUsage words kept output))
 
 -- this was written
 abbrev pub Adds : List ℕ → Option (List ℕ) → Option (List ℕ) → Type 0
@@ -93,13 +118,14 @@ pub record IsStopped (words : List (List ℕ)) (files : Files) (before after : L
   pub fault : IsShelfFault files s z before after
 
 -- what an answer that was found says, before it is written
-abbrev pub IsAnswer : Answer → List (List ℕ) → Files → (List ℕ → ℕ) → (List ℕ → ℕ) → Type 0
-IsAnswer answer.NoCommand words files before after = IsUsage words None usage_line
-IsAnswer answer.NoSystem words files before after = IsRefused words files None system_refusal
-IsAnswer answer.NoScenario words files before after = IsRefused words files None scenario_refusal
-IsAnswer (answer.Trace text kept) words files before after = IsTraced words files (Some kept) text
-IsAnswer answer.ShelfFault words files before after = IsStopped words files before after
-IsAnswer answer.Memory words files before after = Unit {0}
+abbrev pub IsAnswer : (system scenario : List ℕ) → Answer → List (List ℕ) → Files → (List ℕ → ℕ) → (List ℕ → ℕ) → Type 0
+IsAnswer system scenario answer.NoCommand words files before after = IsUsage words None usage_line
+IsAnswer system scenario answer.NoSystem words files before after = IsRefused words files None system_refusal
+IsAnswer system scenario answer.NoScenario words files before after = IsRefused words files None scenario_refusal
+IsAnswer system scenario (answer.Trace text kept) words files before after = IsTraced words files (Some kept) text
+IsAnswer system scenario (answer.Made text) words files before after = IsMade system scenario words None text.items
+IsAnswer system scenario answer.ShelfFault words files before after = IsStopped words files before after
+IsAnswer system scenario answer.Memory words files before after = Unit {0}
 
 -- a line was said with this status, or the sink failed and a prefix of it was written
 abbrev pub IsSaid : ℕ → ℕ → List ℕ → Option (List ℕ) → Option (List ℕ) → ℕ → ℕ → Type 0
@@ -112,6 +138,7 @@ IsSimulated answer.NoCommand S Z = ⊥
 IsSimulated answer.NoSystem S Z = ⊥
 IsSimulated answer.NoScenario S Z = ⊥
 IsSimulated (answer.Trace text kept) S Z = IsSimulation S Z kept × (text ≡ trace_text S Z kept)
+IsSimulated (answer.Made text) S Z = ⊥
 IsSimulated answer.ShelfFault S Z = ⊥
 IsSimulated answer.Memory S Z = Unit {0}
 
@@ -121,5 +148,6 @@ IsSecond answer.NoCommand file S before after = ⊥
 IsSecond answer.NoSystem file S before after = ⊥
 IsSecond answer.NoScenario file S before after = (zt : List ℕ) → file ≡ Some zt → (Z : Plan) → IsScenario zt S Z → ⊥
 IsSecond (answer.Trace text kept) file S before after = (zt : List ℕ) → file ≡ Some zt → (Z : Plan) × IsScenario zt S Z × IsSimulation S Z kept × (text ≡ trace_text S Z kept)
+IsSecond (answer.Made text) file S before after = ⊥
 IsSecond answer.ShelfFault file S before after = Rose before after
 IsSecond answer.Memory file S before after = Unit {0}

@@ -1,6 +1,7 @@
 //! The program: it reads systems and scenarios, runs them and writes their traces.
 #![tactic(auto)]
 
+mod command;
 mod small;
 #[cfg(test)]
 mod tests;

@@ -1,5 +1,6 @@
 use crate::top::quiet_top;
 use kom_io::{MemoryShelf, MemorySink, Words};
+use kom_make::{make_scenario, make_system};
 use std::alloc::{AllocError, Global};
 use std::test::Fail;
 
@@ -18,7 +19,7 @@ const SCENARIO: &str = "scenario 1;";
 const TRACE: &str =
     "trace 1\n0 0 took 0 start\n1 0 did 0 done active\nend quiet\ntook 1 did 1 moved 0 queued 0 out 0\n";
 
-const USAGE: &str = "usage: kompics sim S Z\n";
+const USAGE: &str = "usage: kompics sim S Z | make N system|scenario\n";
 
 const NO_SYSTEM: &str = "refused system rule 0 at 1:1\n";
 
@@ -271,5 +272,49 @@ fn names_each_fault_of_the_outside(rt: HostRuntime) -> Result<(), Fail> {
         assert_eq!(rt; status, 6);
         assert_eq!(rt; text.as_slice(), &trace.as_bytes()[..20]);
     }
+    Ok(())
+}
+
+#[test]
+fn writes_the_generated_texts(rt: HostRuntime) -> Result<(), Fail> {
+    for n in [1, 30] {
+        let word = format!(in rt.alloc(); "{n}")?;
+        let text = make_system(rt.alloc(), n)?;
+        let words = ["make", word.as_str(), "system"];
+        let (status, out) = sim(rt.alloc(), &words, b"", b"", &PLAIN)?;
+        assert_eq!(rt; status, 0);
+        assert_eq!(rt; out.as_slice(), text.as_slice());
+        let text = make_scenario(rt.alloc(), n)?;
+        let words = ["make", word.as_str(), "scenario"];
+        let (status, out) = sim(rt.alloc(), &words, b"", b"", &PLAIN)?;
+        assert_eq!(rt; status, 0);
+        assert_eq!(rt; out.as_slice(), text.as_slice());
+    }
+    Ok(())
+}
+
+#[test]
+fn knows_the_numbers_of_generated_texts(rt: HostRuntime) -> Result<(), Fail> {
+    for words in [
+        ["make", "0", "system"],
+        ["make", "01", "system"],
+        ["make", "31", "scenario"],
+        ["make", "100", "scenario"],
+        ["make", "", "system"],
+        ["make", "1", "trace"],
+        ["Make", "1", "system"],
+    ] {
+        let (status, out) = sim(rt.alloc(), &words, b"", b"", &PLAIN)?;
+        assert_eq!(rt; status, 2);
+        assert_eq!(rt; out.as_slice(), USAGE.as_bytes());
+    }
+    let outside = Outside {
+        write: 10,
+        write_fails: 2,
+        ..PLAIN
+    };
+    let (status, out) = sim(rt.alloc(), &["make", "7", "scenario"], b"", b"", &outside)?;
+    assert_eq!(rt; status, 6);
+    assert_eq!(rt; out.as_slice(), b"scenario 1;\nseed 7;\n".as_slice());
     Ok(())
 }

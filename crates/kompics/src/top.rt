@@ -1,9 +1,10 @@
-ghost use Rattle.std.specs.Prelude.{◌≡◌, ◌≤◌, ◌==◌, ℕ, List, [], ◌∷◌, Some, None, IsTrue, MatchOption};
+ghost use Rattle.std.specs.Prelude.{◌≡◌, ◌≤◌, ◌==◌, ◌⊎◌, ℕ, List, [], ◌∷◌, Some, None, IsTrue, MatchResult};
 ghost use Rattle.std.specs.List.{list_any};
 ghost use Rattle.kom_io.specs.Faults.{Rose};
 ghost use Rattle.kom_io.specs.Texts.{AddsPrefix};
-ghost use Rattle.kompics.specs.Top.{IsNoCommand, sim, IsTraced, IsRefused, IsUsage, IsOutput, IsStopped, IsAnswer, IsSaid, IsSimulated, IsSecond, Adds};
+ghost use Rattle.kompics.specs.Top.{sim, IsTraced, IsMade, IsRefused, IsUsage, IsOutput, IsStopped, IsAnswer, IsSaid, IsSimulated, IsSecond, Adds};
 
+use crate::command::{Command, command_of};
 use crate::small::machine::simulate;
 use crate::small::record::Record;
 use crate::small::scenario::{Plan, read_scenario};
@@ -11,15 +12,19 @@ use crate::small::system::{System, read_system};
 use crate::small::text::Text;
 use crate::small::trace::trace_text;
 use kom_io::{Shelf, Sink, TextRead, Words, Written, read_text, write_all_of};
-use std::alloc::Global;
+use kom_make::{SCENARIO, SYSTEM, make_scenario, make_system};
+use std::alloc::{AllocError, Global};
 
 /// The greatest length of a file, in bytes.
 const FILE_LIMIT: usize = 1048576;
 
+/// The commands so far.
+const USAGE: &[u8] = b"usage: kompics sim S Z | make N system|scenario\n";
+
 /// How a call of the program ended.
 #[derive(Drop)]
 pub struct Ended {
-    /// 0: the trace was written. 1: a file is not small. 2: the words are no command. 5: the shelf
+    /// 0: the trace or the generated text was written. 1: a file is not small. 2: the words are no command. 5: the shelf
     /// failed. 6: the sink failed. 7: want of memory.
     pub status: u8,
     /// The record of the run, where there was one: with the status 0, and with 6 after a run.
@@ -27,7 +32,8 @@ pub struct Ended {
 }
 
 /// Does what the words say: `sim S Z` reads the system S and the scenario Z, simulates them and
-/// writes the trace.
+/// writes the trace; `make N system` and `make N scenario` write the generated texts of a number
+/// from 1 to 30.
 pub fn quiet_top<S: Shelf, K: Sink>(
     alloc: Global,
     words: &Words,
@@ -35,15 +41,15 @@ pub fn quiet_top<S: Shelf, K: Sink>(
     out: &mut K,
 ) -> Ended
     ensures status { IsTrue (list_any (λ s. s == result.status) (0 ∷ 1 ∷ 2 ∷ 5 ∷ 6 ∷ 7 ∷ [])) }
-    ensures traced { result.status ≡ 0 → (output : List ℕ) × IsTraced words.now (S.file shelf.old) result.kept output × Adds output (K.written out.old) (K.written out.new) }
+    ensures done { result.status ≡ 0 → (output : List ℕ) × (IsTraced words.now (S.file shelf.old) result.kept output ⊎ IsMade SYSTEM.now SCENARIO.now words.now result.kept output) × Adds output (K.written out.old) (K.written out.new) }
     ensures refused { result.status ≡ 1 → (output : List ℕ) × IsRefused words.now (S.file shelf.old) result.kept output × Adds output (K.written out.old) (K.written out.new) }
     ensures no_command { result.status ≡ 2 → (output : List ℕ) × IsUsage words.now result.kept output × Adds output (K.written out.old) (K.written out.new) }
     ensures shelf_fault { result.status ≡ 5 → IsStopped words.now (S.file shelf.old) (S.count shelf.old) (S.count shelf.new) × (result.kept ≡ None) × (K.written out.new ≡ K.written out.old) }
-    ensures sink_fault { result.status ≡ 6 → Rose (K.count out.old) (K.count out.new) × ((output : List ℕ) × IsOutput words.now (S.file shelf.old) result.kept output × AddsPrefix output (K.written out.old) (K.written out.new)) }
+    ensures sink_fault { result.status ≡ 6 → Rose (K.count out.old) (K.count out.new) × ((output : List ℕ) × IsOutput SYSTEM.now SCENARIO.now words.now (S.file shelf.old) result.kept output × AddsPrefix output (K.written out.old) (K.written out.new)) }
     ensures memory { result.status ≡ 7 → (result.kept ≡ None) × (K.written out.new ≡ K.written out.old) }
 {
     match answer_to(alloc, words, shelf) {
-        Answer::NoCommand => say(out, b"usage: kompics sim S Z\n", 2),
+        Answer::NoCommand => say(out, USAGE, 2),
         Answer::NoSystem => say(out, b"refused system rule 0 at 1:1\n", 1),
         Answer::NoScenario => say(out, b"refused scenario rule 0 at 1:1\n", 1),
         Answer::Trace { text, kept } => {
@@ -56,6 +62,7 @@ pub fn quiet_top<S: Shelf, K: Sink>(
                 kept: Some(kept),
             }
         }
+        Answer::Made(text) => say(out, text.as_slice(), 0),
         Answer::ShelfFault => without_record(5),
         Answer::Memory => without_record(7),
     }
@@ -87,16 +94,41 @@ pub enum Answer {
     NoSystem,
     NoScenario,
     Trace { text: Text, kept: Record },
+    Made(Vec<u8>),
     ShelfFault,
     Memory,
 }
 
 fn answer_to<S: Shelf>(alloc: Global, words: &Words, shelf: &mut S) -> Answer
-    ensures { IsAnswer result words.now (S.file shelf.old) (S.count shelf.old) (S.count shelf.new) }
+    ensures { IsAnswer SYSTEM.now SCENARIO.now result words.now (S.file shelf.old) (S.count shelf.old) (S.count shelf.new) }
 {
-    let Some((system_name, scenario_name)) = files_of(words) else {
-        return Answer::NoCommand;
-    };
+    match command_of(words) {
+        Some(Command::Sim { system, scenario }) => answer_sim(alloc, shelf, system, scenario),
+        Some(Command::MakeSystem(n)) => made(make_system(alloc, n)),
+        Some(Command::MakeScenario(n)) => made(make_scenario(alloc, n)),
+        None => Answer::NoCommand,
+    }
+}
+
+/// The answer of a text that was made.
+fn made(text: Result<Vec<u8>, AllocError>) -> Answer
+    ensures { MatchResult text (λ bytes. result ≡ Answer.Made bytes) (λ _. result ≡ Answer.Memory) }
+{
+    match text {
+        Ok(text) => Answer::Made(text),
+        Err(_) => Answer::Memory,
+    }
+}
+
+/// What the two files of the command `sim` come to.
+fn answer_sim<S: Shelf>(
+    alloc: Global,
+    shelf: &mut S,
+    system_name: &str,
+    scenario_name: &str,
+) -> Answer
+    ensures { (words : List (List ℕ)) → words ≡ sim system_name.now scenario_name.now → IsAnswer SYSTEM.now SCENARIO.now result words (S.file shelf.old) (S.count shelf.old) (S.count shelf.new) }
+{
     let text = match read_text(alloc, shelf, system_name, FILE_LIMIT) {
         TextRead::Text(text) => text,
         TextRead::TooLong => return Answer::NoSystem,
@@ -107,25 +139,6 @@ fn answer_to<S: Shelf>(alloc: Global, words: &Words, shelf: &mut S) -> Answer
         Ok(Some(system)) => answer_scenario(alloc, shelf, scenario_name, &system),
         Ok(None) => Answer::NoSystem,
         Err(_) => Answer::Memory,
-    }
-}
-
-/// The two files of the command `sim`.
-fn files_of(words: &Words) -> Option<(&str, &str)>
-    ensures { MatchOption result (IsNoCommand words.now) (λ f. words.now ≡ sim f.0.now f.1.now) }
-{
-    if words.len() != 3 {
-        return None;
-    }
-    match (words.at(0), words.at(1), words.at(2)) {
-        (Some(command), Some(system), Some(scenario)) => {
-            if command == "sim" {
-                Some((system, scenario))
-            } else {
-                None
-            }
-        }
-        _ => None,
     }
 }
 

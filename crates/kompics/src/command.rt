@@ -1,0 +1,80 @@
+ghost use Rattle.std.specs.Prelude.{◌≡◌, ◌≢◌, ◌≤◌, ◌↔◌, ℕ, [], ◌∷◌, codes, decimal, IsTrue, MatchOption};
+ghost use Rattle.kompics.specs.Top.{IsNoCommand, IsCommand, make};
+
+use itoa::Buffer;
+use kom_io::Words;
+
+/// What the words ask for.
+#[derive(Clone, Copy, Debug)]
+pub enum Command<'w> {
+    /// Simulates the system of one file under the scenario of another.
+    Sim { system: &'w str, scenario: &'w str },
+    /// Writes the generated system of a number from 1 to 30.
+    MakeSystem(u32),
+    /// Writes the generated scenario of a number from 1 to 30.
+    MakeScenario(u32),
+}
+
+fn is_number(word: &str, n: u32) -> bool
+    ensures { IsTrue result ↔ (word.now ≡ decimal n) }
+{
+    let mut buffer = Buffer::new();
+    word == buffer.format(n)
+}
+
+/// The number from 1 to 30 that a word is, without leading zeros.
+fn number_of(word: &str) -> Option<u32>
+    ensures { MatchOption result ((n : ℕ) → 1 ≤ n → n ≤ 30 → word.now ≢ decimal n) (λ n. (1 ≤ n) × (n ≤ 30) × (word.now ≡ decimal n)) }
+{
+    for n in 1..31 {
+        if is_number(word, n) {
+            return Some(n);
+        }
+    }
+    None
+}
+
+/// The command of words that begin with `make`.
+#[tactic(auto, using(crate::proofs::Words::no_number, crate::proofs::Words::no_text))]
+fn making<'w>(number: &'w str, what: &'w str) -> Option<Command<'w>>
+    ensures { MatchOption result (IsNoCommand (codes "make" ∷ number.now ∷ what.now ∷ [])) (λ c. IsCommand c (codes "make" ∷ number.now ∷ what.now ∷ [])) }
+{
+    let n = number_of(number)?;
+    if what == "system" {
+        return Some(Command::MakeSystem(n));
+    }
+    if what == "scenario" {
+        return Some(Command::MakeScenario(n));
+    }
+    None
+}
+
+#[tactic(auto, using(crate::proofs::Words::no_command))]
+fn parsed<'w>(first: &'w str, second: &'w str, third: &'w str) -> Option<Command<'w>>
+    ensures { MatchOption result (IsNoCommand (first.now ∷ second.now ∷ third.now ∷ [])) (λ c. IsCommand c (first.now ∷ second.now ∷ third.now ∷ [])) }
+{
+    if first == "sim" {
+        return Some(Command::Sim {
+            system: second,
+            scenario: third,
+        });
+    }
+    if first == "make" {
+        return making(second, third);
+    }
+    None
+}
+
+/// The command that the words are.
+#[tactic(auto, using(crate::proofs::Words::not_three, crate::proofs::Words::three))]
+pub fn command_of(words: &Words) -> Option<Command<'_>>
+    ensures { MatchOption result (IsNoCommand words.now) (λ c. IsCommand c words.now) }
+{
+    if words.len() != 3 {
+        return None;
+    }
+    match (words.at(0), words.at(1), words.at(2)) {
+        (Some(first), Some(second), Some(third)) => parsed(first, second, third),
+        _ => None,
+    }
+}
