@@ -1,3 +1,4 @@
+use crate::reported::{Broken, first_broken};
 use crate::rules::{first_place_of, is_known};
 use kom_sysread::{PartsRead, read_parts};
 use kom_system::Parts;
@@ -22,7 +23,7 @@ fn place_in(rt: &HostRuntime, number: u8, parts: &Parts) -> Option<u32> {
 
 #[test]
 fn finds_the_first_place(rt: HostRuntime) {
-    let cases: [(u8, u32, &[u8]); 42] = [
+    let cases: [(u8, u32, &[u8]); 64] = [
         (
             6,
             27,
@@ -205,6 +206,108 @@ fn finds_the_first_place(rt: HostRuntime) {
             233,
             b"system 2; component M { channel k : Network from free to free minus when Message.src == 1 && Message.src == 1 && Message.src == 1 && Message.src == 1 && Message.src == 1 && Message.src == 1 && Message.src == 1 && Message.src == 1 && Message.src == 2; } root M();",
         ),
+        (
+            19,
+            70,
+            b"system 1; component M { channel k : Timer from free to free plus when SetTimer.id == 1; } root M();",
+        ),
+        (
+            19,
+            129,
+            b"system 2; event E : Message(a); port P { minus E; } component M { channel k : P from free to free minus when Message.src == 1 && Timeout.id == 1; } root M();",
+        ),
+        (
+            20,
+            72,
+            b"system 1; component M { requires t : Timer; on Timeout at t as g { } on SetTimer at t as h { } } root M();",
+        ),
+        (
+            20,
+            47,
+            b"system 1; component M { provides t : Timer; on Timeout at t as h { } } root M();",
+        ),
+        (
+            23,
+            68,
+            b"system 1; component M { requires t : Timer; on start as h { trigger Timeout(1) at t; } } root M();",
+        ),
+        (
+            23,
+            127,
+            b"system 1; event E : Message(); port P { minus E; } component M { requires p : P; on start as h { trigger E(1, 2) at p; trigger Message(1, 2) at p; } } root M();",
+        ),
+        (
+            23,
+            76,
+            b"system 1; component M { requires n : Network; on Message at n as h { answer Timeout(1); } } root M();",
+        ),
+        (
+            24,
+            68,
+            b"system 1; component M { requires t : Timer; on start as h { trigger SetTimer(1) at t; } } root M();",
+        ),
+        (
+            24,
+            111,
+            b"system 1; event E : Message(a); component M { requires n : Network; on E at n as h { answer E(1, 2, 3); answer E(1, 2); } } root M();",
+        ),
+        (
+            24,
+            102,
+            b"system 1; event A : B(x); event B : A(y); component M { requires n : Network; on start as h { trigger A(1, 2) at n; } } root M();",
+        ),
+        (
+            29,
+            89,
+            b"system 1; component M { requires n : Network; on Message at n as h { let x = it.src + it.id; } } root M();",
+        ),
+        (
+            29,
+            110,
+            b"system 2; event E : Message(a); component M { channel k : Network from free to free plus when E.dst == 1 && E.b == 1; } root M();",
+        ),
+        (14, 20, b"system 1; component M { slot s : M(); } root M();"),
+        (
+            14,
+            50,
+            b"system 1; component L { slot s : A(); } component A { slot t; slot s : B(); } component B { slot s : A(); } root L();",
+        ),
+        (
+            15,
+            486,
+            b"system 1; component Z { } component A { slot s : Z(); } component B { slot s : A(); } component C { slot s : B(); } component D { slot s : C(); } component E { slot s : D(); } component F { slot s : E(); } component G { slot s : F(); } component H { slot s : G(); } component I { slot s : H(); } component J { slot s : I(); } component K { slot s : J(); } component L { slot s : K(); } component M { slot s : L(); } component N { slot s : M(); } component O { slot s : N(); } component P { slot s : O(); } component Q { slot s : P(); } root Q();",
+        ),
+        (
+            15,
+            368,
+            b"system 1; component D { } component C { slot s0 : D(); slot s1 : D(); slot s2 : D(); slot s3 : D(); slot s4 : D(); slot s5 : D(); slot s6 : D(); slot s7 : D(); slot s8 : D(); slot s9 : D(); } component B { slot s0 : C(); slot s1 : C(); slot s2 : C(); slot s3 : C(); slot s4 : C(); slot s5 : C(); slot s6 : C(); slot s7 : C(); slot s8 : C(); slot s9 : C(); } component A { slot s0 : B(); slot s1 : B(); slot s2 : B(); slot s3 : B(); slot s4 : B(); slot s5 : B(); slot s6 : B(); slot s7 : B(); slot s8 : B(); slot s9 : B(); } root A();",
+        ),
+        (
+            15,
+            1274,
+            b"system 1; component B { channel k0 : Timer from free to free; channel k1 : Timer from free to free; channel k2 : Timer from free to free; channel k3 : Timer from free to free; channel k4 : Timer from free to free; channel k5 : Timer from free to free; channel k6 : Timer from free to free; channel k7 : Timer from free to free; channel k8 : Timer from free to free; channel k9 : Timer from free to free; channel k10 : Timer from free to free; channel k11 : Timer from free to free; channel k12 : Timer from free to free; channel k13 : Timer from free to free; channel k14 : Timer from free to free; channel k15 : Timer from free to free; channel k16 : Timer from free to free; channel k17 : Timer from free to free; channel k18 : Timer from free to free; channel k19 : Timer from free to free; channel k20 : Timer from free to free; channel k21 : Timer from free to free; channel k22 : Timer from free to free; channel k23 : Timer from free to free; channel k24 : Timer from free to free; channel k25 : Timer from free to free; channel k26 : Timer from free to free; channel k27 : Timer from free to free; channel k28 : Timer from free to free; channel k29 : Timer from free to free; channel k30 : Timer from free to free; channel k31 : Timer from free to free; } component A { slot s0 : B(); slot s1 : B(); slot s2 : B(); slot s3 : B(); slot s4 : B(); slot s5 : B(); slot s6 : B(); slot s7 : B(); slot s8 : B(); slot s9 : B(); slot s10 : B(); slot s11 : B(); slot s12 : B(); slot s13 : B(); slot s14 : B(); slot s15 : B(); slot s16 : B(); slot s17 : B(); slot s18 : B(); slot s19 : B(); slot s20 : B(); slot s21 : B(); slot s22 : B(); slot s23 : B(); slot s24 : B(); slot s25 : B(); slot s26 : B(); slot s27 : B(); slot s28 : B(); slot s29 : B(); slot s30 : B(); slot t : A2(); } component A2 { channel k0 : Timer from free to free; channel k1 : Timer from free to free; channel k2 : Timer from free to free; channel k3 : Timer from free to free; channel k4 : Timer from free to free; channel k5 : Timer from free to free; channel k6 : Timer from free to free; channel k7 : Timer from free to free; channel k8 : Timer from free to free; } root A();",
+        ),
+        (9, 16, b"system 1; event E : E(); component M { } root M();"),
+        (
+            9,
+            31,
+            b"system 1; event A : B(); event B : C(); event C : B(); component M { } root M();",
+        ),
+        (
+            10,
+            16,
+            b"system 1; event E(a, b, c, d, e, f, g, h, i); component M { } root M();",
+        ),
+        (
+            10,
+            31,
+            b"system 1; event E(a, b); event F : E(b); component M { } root M();",
+        ),
+        (
+            10,
+            16,
+            b"system 1; event G : F(g, h, i); event F : E(d, e, f); event E : Message(a); component M { } root M();",
+        ),
     ];
     for (number, at, text) in cases {
         assert_eq!(rt; place(&rt, number, text), Some(at));
@@ -229,4 +332,24 @@ fn finds_no_place(rt: HostRuntime) {
     for number in 6..33 {
         assert!(rt; !is_known(number) || keeps(&rt, number, text));
     }
+}
+
+/// The broken rule of a text that is reported; `None` also where the text is not read.
+fn reported(rt: &HostRuntime, text: &[u8]) -> Option<Broken> {
+    if text.len() > 1048576 {
+        return None;
+    }
+    match read_parts(rt.alloc(), text) {
+        PartsRead::Parts(parts) => first_broken(rt.alloc(), &parts).unwrap_or(None),
+        _ => None,
+    }
+}
+
+#[test]
+fn reports_the_least_rule(rt: HostRuntime) {
+    let text: &[u8] =
+        b"system 1; component M { on start as h { let x = 1 + !it.a; fail 900; } } root M(1);";
+    assert_eq!(rt; reported(&rt, text), Some(Broken { number: 13, at: 78 }));
+    let kept: &[u8] = b"system 1; component M { } root M();";
+    assert_eq!(rt; reported(&rt, kept), None);
 }

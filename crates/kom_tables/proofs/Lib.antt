@@ -1,0 +1,4 @@
+pub mod Ancestors
+pub mod Attributed
+pub mod Entries
+pub mod Numbered
