@@ -1,0 +1,9 @@
+pub mod Components
+pub mod Counts
+pub mod Events
+pub mod Kept
+pub mod Lists
+pub mod PortTypes
+pub mod Statements
+pub mod Trees
+pub mod Whole

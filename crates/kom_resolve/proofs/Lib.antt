@@ -1,0 +1,4 @@
+pub mod Exprs
+pub mod Gathered
+pub mod Numbered
+pub mod Rows

@@ -1,0 +1,7 @@
+use Rattle.std.proofs.Common.{arith}
+use Rattle.kom_rules.specs.Spaces.{event_names}
+use Rattle.kom_resolve.proofs.Numbered.{number_fits}
+use Rattle.kom_resolve.proofs.numbers.File.event.Goals as goal
+
+pub overflow_cast-result : goal.overflow_cast-result
+overflow_cast-result c = omega (arith, c.event_number.ensures, number_fits (event_names c.args.self.now.parts.now) c.args.spot.now.name, c.args.self.now.counted.events)

@@ -1,0 +1,4 @@
+pub mod Attributed
+pub mod Counted
+pub mod Flat
+pub mod Resolved
