@@ -56,6 +56,13 @@ impl<'s> Names<'s> {
         Ok(Names { system, none })
     }
 
+    /// The system. It takes no memory.
+    pub fn system(&self) -> &System
+        ensures { result.now ≡ self.now }
+    {
+        self.system
+    }
+
     /// The component type with a number. It takes no memory, like the names below.
     pub fn kind(&self, k: u16) -> &Kind
         ensures { result.now ≡ kind_of self.now.declarations k }

@@ -103,6 +103,13 @@ impl Text {
         Ok(())
     }
 
+    /// Takes all bytes out, and keeps their memory for what is added next.
+    pub fn clear(&mut self)
+        ensures { self.new ≡ [] }
+    {
+        self.bytes.clear();
+    }
+
     /// The bytes.
     pub fn as_bytes(&self) -> &[u8]
         ensures { result.now ≡ self.now }

@@ -1,1 +1,4 @@
 mod Slots
+mod Changes
+mod Told
+mod Lines

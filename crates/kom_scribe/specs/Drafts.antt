@@ -7,7 +7,9 @@ use Rattle.kom_index.specs.Entries.{value_of}
 use Rattle.kom_lang.specs.Declarations.{Declarations, kind_of, no_kind}
 use Rattle.kom_lang.specs.declared.kind.Kind.{Kind}
 use Rattle.kom_record.specs.Entries.{Act}
-use Rattle.kom_record.specs.Instances.{born, occupant}
+use Rattle.kom_record.specs.Instances.{Instance, tree, depth_limit, born, occupant}
+use Rattle.kom_trees.specs.declared.nodes.Node.{Node}
+use Rattle.kom_trees.specs.Nodes.{node_of, IsOf}
 use Rattle.kom_trees.specs.declared.nodes.SlotOf.{SlotOf}
 use Rattle.kom_scribe.specs.declared.draft.Change.{Change}
 use Rattle.kom_scribe.specs.declared.draft.Change.TheVariants.{Born, Gone}
@@ -48,8 +50,22 @@ kinds_with k d = k.kinds.items ++ d.kinds.items
 abbrev pub type_among : Declarations → List ℕ → ℕ → Kind
 type_among S kinds c = option_map_or (kind_of S) (slice_get kinds c) no_kind
 
+-- a draft has besides these instances
+pub record HasBesides (nodes : List Node) (old new : Draft) : Type 0 where
+  pub kinds : new.kinds.items ≡ old.kinds.items ++ map (λ n. n.kind) nodes
+  pub changes : new.changes.items ≡ old.changes.items ++ map (λ n. Born n.at) nodes
+
 -- what is known, with a draft, is how it is after some acts
 pub record IsAfter (S : Declarations) (k : Known) (d : Draft) (done : List Act) : Type 0 where
   pub kinds : kinds_with k d ≡ map (λ i. i.kind) (born S done)
   pub occupants : (p s : ℕ) → occupant_in p s (length k.kinds.items) (known_occupant k p s) d.changes.items ≡ occupant S done p s
   pub counted : births d.changes.items ≡ length d.kinds.items
+
+-- what is known is how it is after some acts
+pub record Knows (S : Declarations) (k : Known) (done : List Act) : Type 0 where
+  pub kinds : k.kinds.items ≡ map (λ i. i.kind) (born S done)
+  pub occupants : (p s : ℕ) → known_occupant k p s ≡ occupant S done p s
+
+-- a draft has besides the instances that a creation in a slot makes
+abbrev pub Creates : Declarations → Known → SlotOf → ℕ → Draft → Draft → Type 0
+Creates S k at kind d new = (i : Instance) → IsOf kind (Some at) i → HasBesides (map node_of (tree depth_limit S (length (kinds_with k d)) i)) d new

@@ -1,12 +1,14 @@
-ghost use Rattle.std.specs.Prelude.{◌≡◌, ◌≤◌, ◌<◌, ◌+◌, ◌^◌, ℕ, if◌then◌else◌, ◌∷◌, [], ◌++◌, length, Some, None, OnOk, vec_capacity};
+ghost use Rattle.std.specs.Prelude.{◌≡◌, ◌≤◌, ◌<◌, ◌+◌, ◌^◌, ℕ, if◌then◌else◌, ◌∷◌, [], ◌++◌, length, List, Some, None, IfOk, OnOk, OnErr, vec_capacity};
 ghost use Rattle.kom_lang.specs.Declarations.{kind_of};
-ghost use Rattle.kom_scribe.specs.Drafts.{is_at, occupant_in, births, known_occupant, kinds_with, type_among};
+ghost use Rattle.kom_record.specs.Entries.{Act};
+ghost use Rattle.kom_lang.specs.Declarations.{Declarations};
+ghost use Rattle.kom_scribe.specs.Drafts.{is_at, occupant_in, births, known_occupant, kinds_with, type_among, IsAfter, Knows};
 
 use crate::draft::{Change, Draft};
 use kom_index::Ordered;
 use kom_lang::Kind;
 use kom_lines::Names;
-use kom_trees::SlotOf;
+use kom_trees::{SlotOf, tree_of};
 use std::alloc::{AllocError, Global};
 
 /// What is known of the instances of a record: the type of each, by number, and the occupants of
@@ -27,6 +29,19 @@ impl Known {
             kinds: Vec::new(alloc),
             occupants: Ordered::new(alloc),
         }
+    }
+
+    /// What is known of a record without entries: the root with its tree. The error is want of memory.
+    pub fn begin(alloc: Global, names: &Names<'_>) -> Result<Known, AllocError>
+        ensures { IfOk result (λ known. Knows names.now.declarations known []) }
+    {
+        let root = names.system().root().kind;
+        let nodes = tree_of(alloc, names.system(), 0, root, None)?;
+        let mut draft = Draft::new(alloc);
+        draft.add_nodes(nodes.as_slice())?;
+        let mut known = Known::new(alloc);
+        known.absorb(&draft)?;
+        Ok(known)
     }
 
     /// How many instances there are, with those of a draft.
@@ -71,10 +86,10 @@ impl Known {
         ensures kinds { self.new.kinds.items ≡ self.old.kinds.items }
         ensures occupants { (p s : ℕ) → known_occupant self.new p s ≡ known_occupant self.old p s }
         ensures kinds_room { OnOk result (length self.new.kinds.items + length draft.now.kinds.items ≤ vec_capacity self.new.kinds) }
-        ensures slots_room { OnOk result (length draft.now.kinds.items ≤ self.new.occupants.1) }
+        ensures slots_room { OnOk result (length draft.now.changes.items ≤ self.new.occupants.1) }
     {
         self.kinds.reserve(draft.kinds.len())?;
-        self.occupants.reserve(draft.kinds.len())
+        self.occupants.reserve(draft.changes.len())
     }
 
     /// Puts an instance into a slot. It takes no memory.
@@ -131,9 +146,8 @@ impl Known {
 
     /// Notes a draft, for which there is room. It takes no memory.
     pub fn note(&mut self, draft: &Draft)
-        requires counted { births draft.now.changes.items ≡ length draft.now.kinds.items }
         requires kinds_room { length self.old.kinds.items + length draft.now.kinds.items ≤ vec_capacity self.old.kinds }
-        requires slots_room { length draft.now.kinds.items ≤ self.old.occupants.1 }
+        requires slots_room { length draft.now.changes.items ≤ self.old.occupants.1 }
         ensures kinds { self.new.kinds.items ≡ self.old.kinds.items ++ draft.now.kinds.items }
         ensures occupants { (p s : ℕ) → known_occupant self.new p s ≡ occupant_in p s (length self.old.kinds.items) (known_occupant self.old p s) draft.now.changes.items }
     {
@@ -142,6 +156,23 @@ impl Known {
             Ok(()) => {}
             Err(_) => unreachable!(),
         }
+    }
+
+    /// A draft with which nothing is changed yet. It takes no memory.
+    pub fn draft(&self, alloc: Global) -> Draft
+        ensures { (S : Declarations) (done : List Act) → Knows S self.now done → IsAfter S self.now result done }
+    {
+        Draft::new(alloc)
+    }
+
+    /// Takes over what a draft changes. On want of memory what is known is the same.
+    pub fn absorb(&mut self, draft: &Draft) -> Result<(), AllocError>
+        ensures knows { OnOk result ((S : Declarations) (done : List Act) → IsAfter S self.old draft.now done → Knows S self.new done) }
+        ensures same { OnErr result ((S : Declarations) (done : List Act) → Knows S self.old done → Knows S self.new done) }
+    {
+        self.reserve(draft)?;
+        self.note(draft);
+        Ok(())
     }
 }
 

@@ -22,7 +22,7 @@ pub fn tree_of(
     at: Option<SlotOf>,
 ) -> Result<Vec<Node>, AllocError>
     requires { number < 2 ^ 63 }
-    ensures { (i : Instance) → IsOf kind at i → IfOk result (λ nodes. nodes.items ≡ map node_of (tree depth_limit system.now.declarations number i)) }
+    ensures { IfOk result (λ nodes. (i : Instance) → IsOf kind at i → nodes.items ≡ map node_of (tree depth_limit system.now.declarations number i)) }
 {
     let mut nodes = Vec::new(alloc);
     plant(system, number, &mut nodes, LEVELS, kind, at)?;

@@ -1,4 +1,4 @@
-use Rattle.std.proofs.Common.{◌≡◌, ◌++◌, ap, ◌∙◌, codes}
+use Rattle.std.proofs.Common.{◌++◌, ap, ◌∙◌, codes}
 use Rattle.std.proofs.lemmas.List.{append_assoc}
 use Rattle.kom_record.specs.Trace.{number_or_none}
 use Rattle.kom_scribe.proofs.effects.add_escalate.Goals as goal

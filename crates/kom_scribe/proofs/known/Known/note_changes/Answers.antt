@@ -1,4 +1,4 @@
-use Rattle.std.proofs.Common.{◌≡◌, ◌+◌, ◌≤◌, ◌∷◌, [], ◌++◌, ap, ◌∙◌, sym, length, get_or, take, None, arith}
+use Rattle.std.proofs.Common.{◌+◌, ◌∷◌, [], ap, ◌∙◌, sym, length, get_or, take, None, arith}
 use Rattle.kom_scribe.specs.declared.draft.Change.TheVariants.{Born}
 use Rattle.kom_scribe.specs.Drafts.{occupant_in, births, known_occupant}
 use Rattle.kom_scribe.proofs.Slots.{one_change_more, one_birth_more, few_births, fewer_births}

@@ -1,4 +1,4 @@
-use Rattle.std.proofs.Common.{◌≡◌, if◌then◌else◌, Some, ap, ◌∙◌}
+use Rattle.std.proofs.Common.{if◌then◌else◌, Some, ap, ◌∙◌}
 use Rattle.kom_scribe.specs.Drafts.{known_occupant}
 use Rattle.kom_scribe.proofs.Slots.{slot_tied}
 use Rattle.kom_scribe.proofs.known.Known.put.Goals as goal

@@ -1,0 +1,5 @@
+mod Jobs
+mod Counted
+mod Ended
+mod Sightings
+mod Written
