@@ -1,0 +1,4 @@
+mod Blocks
+mod ExamplesShown
+mod Levels
+mod Pieces
