@@ -23,11 +23,11 @@ module _ (S : Declarations) where
   abbrev pub HasParent : ℕ → List Instance → List (ℕ × ℕ) → ℕ → Instance → Type 0
   HasParent n is base j x = (x.ancestry ≡ base) ⊎ ((m : ℕ) × (y : Instance) × (s : ℕ) × (m < j) × (slice_get is m ≡ Some y) × (x.ancestry ≡ (n + m, s) ∷ y.ancestry))
 
-  abbrev HaveParents : ℕ → Type 0
+  abbrev pub HaveParents : ℕ → Type 0
   HaveParents levels = (n : ℕ) (i : Instance) (j : ℕ) (x : Instance) → slice_get (tree levels S n i) j ≡ Some x → HasParent n (tree levels S n i) i.ancestry j x
 
   -- in a row of trees: directly under their parent, or under an earlier one of the row
-  abbrev InRow : ℕ → List (ℕ × ℕ) → ℕ → List Instance → ℕ → Instance → Type 0
+  abbrev pub InRow : ℕ → List (ℕ × ℕ) → ℕ → List Instance → ℕ → Instance → Type 0
   InRow n line next is j x = ((a : ℕ) × (x.ancestry ≡ (n, a) ∷ line)) ⊎ ((m : ℕ) × (y : Instance) × (s : ℕ) × (m < j) × (slice_get is m ≡ Some y) × (x.ancestry ≡ (next + m, s) ∷ y.ancestry))
 
   one_slot : (levels : ℕ) → HaveParents levels → (n : ℕ) (line : List (ℕ × ℕ)) (next a : ℕ) (o : Option Child) (j : ℕ) (x : Instance)
@@ -48,7 +48,7 @@ module _ (S : Declarations) where
   back_row n line next xs ys j x (inr p) =
       inr (length xs + p.0, p.1, p.2, omega (arith, p.3), get_right xs ys p.0 ∙ p.4, p.5 ∙ ap (λ k. (k, p.2) ∷ p.1.ancestry) (let f : (next + length xs) + p.0 ≡ next + (length xs + p.0) = omega arith in f))
 
-  row_parents : (levels : ℕ) → HaveParents levels → (n : ℕ) (line : List (ℕ × ℕ)) (next : ℕ) (ss : List (ℕ × SlotDecl)) (j : ℕ) (x : Instance)
+  pub row_parents : (levels : ℕ) → HaveParents levels → (n : ℕ) (line : List (ℕ × ℕ)) (next : ℕ) (ss : List (ℕ × SlotDecl)) (j : ℕ) (x : Instance)
       → slice_get (child_trees (tree levels S) n line next ss) j ≡ Some x → InRow n line next (child_trees (tree levels S) n line next ss) j x
   row_parents levels h n line next [] j x e = absurd cc
   row_parents levels h n line next (s ∷ ss) j x e =

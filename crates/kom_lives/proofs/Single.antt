@@ -79,7 +79,7 @@ module _ (S : Declarations) where
 
   -- ---- no two are in one slot
 
-  abbrev AreSingle : List Instance → Type 0
+  abbrev pub AreSingle : List Instance → Type 0
   AreSingle is = (j k : ℕ) (x y : Instance) (q : ℕ × ℕ) → slice_get is j ≡ Some x → slice_get is k ≡ Some y → first x.ancestry ≡ Some q → first y.ancestry ≡ Some q → j ≡ k
 
   single_append : (Q R : ℕ × ℕ → Type 0) (xs ys : List Instance) → ((q : ℕ × ℕ) → Q q → R q → ⊥) → ChildrenIn Q xs → ChildrenIn R ys → AreSingle xs → AreSingle ys → AreSingle (xs ++ ys)
@@ -101,7 +101,7 @@ module _ (S : Declarations) where
           let s = v (j - length xs) (i - length xs) x y q (back j x e lj) (back i y f li) g w in
           omega (arith, lj, li, s)
 
-  abbrev TreesAreSingle : ℕ → Type 0
+  abbrev pub TreesAreSingle : ℕ → Type 0
   TreesAreSingle levels = (n : ℕ) (i : Instance) → ((q : ℕ × ℕ) → first i.ancestry ≡ Some q → q.0 < n) → AreSingle (tree levels S n i)
 
   single_slot : (levels : ℕ) → TreesAreSingle levels → (n : ℕ) (line : List (ℕ × ℕ)) (next a : ℕ) (o : Option Child) → n < next → AreSingle (slot_tree levels n line next a o)
@@ -131,7 +131,7 @@ module _ (S : Declarations) where
   single_alone i zero (suc k) x y q e f g w = absurd cc
   single_alone i (suc j) k x y q e f g w = absurd cc
 
-  single_tree : (levels : ℕ) → TreesAreSingle levels
+  pub single_tree : (levels : ℕ) → TreesAreSingle levels
   single_tree zero n i h = single_alone i
   single_tree (suc levels) n i h =
       single_append (λ q. q.0 < n) (λ q. n ≤ q.0) (i ∷ []) (child_trees (tree levels S) n i.ancestry (suc n) (enumerate_from 0 (kind_of S i.kind).slots)) (λ q u v. absurd (omega (arith, u, v))) (h, tt)
@@ -140,7 +140,7 @@ module _ (S : Declarations) where
 
   -- ---- who is found in a slot
 
-  none_later : (p s n : ℕ) (is : List Instance) → ((k : ℕ) (y : Instance) → slice_get is k ≡ Some y → first y.ancestry ≡ Some (p, s) → ⊥) → child_among S p s n is ≡ None
+  pub none_later : (p s n : ℕ) (is : List Instance) → ((k : ℕ) (y : Instance) → slice_get is k ≡ Some y → first y.ancestry ≡ Some (p, s) → ⊥) → child_among S p s n is ≡ None
   unfolding child_among
   none_later p s n [] h = refl
   none_later p s n (i ∷ is) h =

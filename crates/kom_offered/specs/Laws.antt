@@ -1,6 +1,7 @@
 -- The laws of which channels an offer enters.
-use Rattle.std.specs.Prelude.{◌≡◌, ℕ, Bool, false, ◌&&◌, ◌==◌, Option, Some, None, ◌<◌, length}
-use Rattle.std.specs.Option.{option_map_or}
+use Rattle.std.specs.Prelude.{◌≡◌, ℕ, Bool, false, ◌&&◌, ◌==◌, Option, Some, None, ◌<◌, length, true, List, map, nat_lt, if◌then◌else◌}
+use Rattle.std.specs.List.{Contains, enumerate_from, filter_map, list_all}
+use Rattle.std.specs.Option.{option_map, option_map_or}
 use Rattle.kom_base.specs.declared.numbers.Dir.{Dir}
 use Rattle.kom_base.specs.declared.numbers.EntryNo.{EntryNo}
 use Rattle.kom_base.specs.declared.numbers.Half.{Half}
@@ -13,10 +14,12 @@ use Rattle.kom_record.specs.declared.item.Back.{Back}
 use Rattle.kom_record.specs.declared.item.Back.TheVariants.{Plain, To, Home}
 use Rattle.kom_record.specs.declared.item.Control.{Control as ControlItem}
 use Rattle.kom_record.specs.declared.item.Item.TheVariants.{Control, Arrival}
+use Rattle.kom_record.specs.declared.entry.Release.{Release}
+use Rattle.kom_record.specs.declared.entry.Entry.TheVariants.{Moved}
 use Rattle.kom_record.specs.Entries.{History, acts, item_at}
 use Rattle.kom_record.specs.Channels.{comes_in, selector}
-use Rattle.kom_record.specs.Offers.{Offer, AtHalf, FromOutside}
-use Rattle.kom_record.specs.Queues.{came_against, enters, reaches_a_channel}
+use Rattle.kom_record.specs.Offers.{Offer, AtHalf, FromOutside, offer_at}
+use Rattle.kom_record.specs.Queues.{Envelope, came_against, entering, enters, reaches_a_channel, waiting}
 use Rattle.kom_refine.specs.Points.{StandsAt, start_of}
 use Rattle.kom_refine.specs.States.{Link, State, end_of}
 
@@ -52,3 +55,26 @@ AnswersGoOneWay = (S : Declarations) (P : History) (o : Offer) (s : ℕ) → o.b
 -- what has come home reaches nothing
 abbrev pub HomeReachesNothing : Type 0
 HomeReachesNothing = (S : Declarations) (P : History) (o : Offer) → o.back ≡ Home → reaches_a_channel S P o ≡ false
+
+-- the event is that of the offer with its number, and goes on as that does
+pub record IsOfItsOffer (P : History) (q : Envelope) : Type 0 where
+  pub event : option_map (λ o. o.event) (offer_at P q.no) ≡ Some q.event
+  pub back : option_map (λ o. o.back) (offer_at P q.no) ≡ Some q.back
+
+-- what waits in a channel is read from the record by its number
+abbrev pub WaitingIsRead : Type 0
+WaitingIsRead = (S : Declarations) (P : History) (x : ℕ) (d : Dir) (q : Envelope) → Contains (waiting S P x d) q → IsOfItsOffer P q
+
+-- each release is at a port of the root
+abbrev pub are_at_ports : Declarations → List Release → Bool
+are_at_ports S released = list_all (λ r. nat_lt r.chan (length (kind_of S S.root.kind).ports)) released
+
+-- the number with which a release, at its place, enters direction d of channel x
+abbrev pub number_into : Declarations → ℕ → ℕ → Dir → ℕ × Release → Option EntryNo
+number_into S position x d q = if q.1.chan == x && comes_in S x d then Some (record { position = position; place = q.0 }) else None
+
+-- what a Moved brings into a direction are the numbers of the releases of its channel, in their order,
+-- where that direction comes in
+abbrev pub ReleasesComeIn : Type 0
+ReleasesComeIn = (S : Declarations) (P : History) (w t : ℕ) (released : List Release) (x : ℕ) (d : Dir)
+    → are_at_ports S released ≡ true → map (λ q. q.no) (entering S P (Moved w t released) x d) ≡ filter_map (number_into S (length P) x d) (enumerate_from 0 released)

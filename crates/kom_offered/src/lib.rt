@@ -1,7 +1,7 @@
 //! Laws of which channels an offer enters, read off the state; there is no code.
 #![tactic(auto)]
 
-ghost use Rattle.kom_offered.specs.Laws.{OffersEnterByState, ReleasesEnterTheirChannel, AnswersGoOneWay, HomeReachesNothing};
+ghost use Rattle.kom_offered.specs.Laws.{OffersEnterByState, ReleasesEnterTheirChannel, AnswersGoOneWay, HomeReachesNothing, ReleasesComeIn, WaitingIsRead};
 
 /// An offer enters the living channels that begin at its half and take it: a plain one by their
 /// selectors, an answer by the way on which the event came.
@@ -22,4 +22,14 @@ pub fn answers_go_one_way()
 /// An answer that has come home reaches nothing.
 pub fn home_reaches_nothing()
     ensures { HomeReachesNothing }
+{}
+
+/// What waits in a channel is of the event of the offer with its number, and goes on as that does.
+pub fn waiting_is_read()
+    ensures { WaitingIsRead }
+{}
+
+/// A Moved brings into a channel the numbers of the releases of that channel, in their order.
+pub fn releases_come_in()
+    ensures { ReleasesComeIn }
 {}

@@ -50,7 +50,7 @@ module _ (S : Declarations) where
       let k : length (kind_of S S.root.kind).ports ≤ x = omega (arith, h, length-append es (flat_map (channels_of S) (enumerate_from 0 (born S done))), length-map (enumerate_from 0 (kind_of S S.root.kind).ports) (λ q. Environment q.0), length-enumerate_from 0 (kind_of S S.root.kind).ports) in
       ap (λ o. option_map_or (λ p. not (agree p.provided (is_plus (opposite d)))) o false) (slice_get_past (kind_of S S.root.kind).ports x k)
 
-  before_new : (c n : ℕ) (is : List Instance) → c < n → inits_for S c n is ≡ []
+  pub before_new : (c n : ℕ) (is : List Instance) → c < n → inits_for S c n is ≡ []
   unfolding inits_for
   before_new c n [] h = refl
   before_new c n (i ∷ is) h =

@@ -7,6 +7,7 @@ pub mod Firsts
 pub mod Fresh
 pub mod Kept
 pub mod Laws
+pub mod OneByOne
 pub mod Points
 pub mod Putting
 pub mod Relinking

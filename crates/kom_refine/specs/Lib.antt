@@ -3,3 +3,4 @@ pub mod Laws
 pub mod Points
 pub mod States
 pub mod Steps
+pub mod Within

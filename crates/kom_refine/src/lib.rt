@@ -2,7 +2,15 @@
 //! by effect; there is no code.
 #![tactic(auto)]
 
+mod within;
+
 ghost use Rattle.kom_refine.specs.Laws.{NextIsFirst, TookFollows, MovedFollows, VoidFollows, FaultFollows, DoneFollows, EffectFollows, EffectsStayFresh};
+
+pub use within::{
+    comes_add_up, comes_follow, effects_are_by_created, ends_follow, handlings_are_within,
+    handlings_begin, handlings_begin_fresh, handlings_end, handlings_go_on, nothing_is_added,
+    puts_add_up, puts_follow, same_points_follow,
+};
 
 /// A Took takes the first item out of where it waits, and the state goes on from the record to that
 /// with the Took.
