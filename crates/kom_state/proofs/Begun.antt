@@ -103,6 +103,30 @@ module _ (outs : List Dir) where
       queues = λ x d. aim_of_content (queue_of now x d) ∙ ap (option_map (λ (z : List EntryNo × Option ℕ). z.1)) (content_now x d) ∙ aims_of x d (slice_get links x) ∙ ap (option_map (aim_for n x d)) (sym (link_now x));
     }
 
+-- ---- which directions lead out
+
+module _ (S : Declarations) (v : Parts) where
+  abbrev root_ports : List PortDecl
+  root_ports = (kind_of S S.root.kind).ports
+
+  pub out_at : (x : ℕ) → slice_get (port_outs root_ports) x ≡ option_map (λ (p : PortDecl). out_of p.provided) (slice_get root_ports x)
+  out_at x = slice_get-map (λ (p : PortDecl). out_of p.provided) root_ports x
+
+  pub out_is : v.numbers.outs ≡ port_outs root_ports → (x : ℕ) (d : Dir) → leads_out v.numbers x d ≡ goes_out S x d
+  unfolding model
+  out_is outs x d =
+      ap (λ os. option_map_or (λ e. same_dir e d) (slice_get os x) false) outs ∙ ap (λ o. option_map_or (λ e. same_dir e d) o false) (out_at x) ∙ at d (slice_get root_ports x)
+    where
+      by : (d : Dir) (b : Bool) → same_dir (out_of b) d ≡ not (agree b (is_plus (opposite d)))
+      by Plus true = refl
+      by Plus false = refl
+      by Minus true = refl
+      by Minus false = refl
+
+      at : (d : Dir) (o : Option PortDecl) → option_map_or (λ e. same_dir e d) (option_map (λ (p : PortDecl). out_of p.provided) o) false ≡ option_map_or (λ (p : PortDecl). not (agree p.provided (is_plus (opposite d)))) o false
+      at d None = refl
+      at d (Some p) = by d p.provided
+
 -- ---- what it is for a system
 
 module _ (S : Declarations) (v : Parts) (tree : v.tree ≡ record { instances = []; spare = 0 }) (no_rows : v.rows ≡ []) (no_bodies : v.bodies.bodies ≡ []) where
@@ -110,26 +134,8 @@ module _ (S : Declarations) (v : Parts) (tree : v.tree ≡ record { instances = 
   ports = (kind_of S S.root.kind).ports
 
   module _ (outs : v.numbers.outs ≡ port_outs ports) (counts : v.numbers.counts ≡ []) (opened : AreOpened (port_links (port_outs ports)) v) where
-    out_at : (x : ℕ) → slice_get (port_outs ports) x ≡ option_map (λ (p : PortDecl). out_of p.provided) (slice_get ports x)
-    out_at x = slice_get-map (λ (p : PortDecl). out_of p.provided) ports x
-
-    out_is : (x : ℕ) (d : Dir) → leads_out v.numbers x d ≡ goes_out S x d
-    unfolding model
-    out_is x d =
-        ap (λ os. option_map_or (λ e. same_dir e d) (slice_get os x) false) outs ∙ ap (λ o. option_map_or (λ e. same_dir e d) o false) (out_at x) ∙ at d (slice_get ports x)
-      where
-        by : (d : Dir) (b : Bool) → same_dir (out_of b) d ≡ not (agree b (is_plus (opposite d)))
-        by Plus true = refl
-        by Plus false = refl
-        by Minus true = refl
-        by Minus false = refl
-
-        at : (d : Dir) (o : Option PortDecl) → option_map_or (λ e. same_dir e d) (option_map (λ (p : PortDecl). out_of p.provided) o) false ≡ option_map_or (λ (p : PortDecl). not (agree p.provided (is_plus (opposite d)))) o false
-        at d None = refl
-        at d (Some p) = by d p.provided
-
     link_is : (x : ℕ) → link_of v.wires.links x ≡ option_map (λ (p : PortDecl). link_out x (out_of p.provided)) (slice_get ports x)
-    link_is x = opened.links_now x ∙ link_at (port_outs ports) x ∙ ap (option_map (link_out x)) (out_at x) ∙ at (slice_get ports x)
+    link_is x = opened.links_now x ∙ link_at (port_outs ports) x ∙ ap (option_map (link_out x)) (out_at S v x) ∙ at (slice_get ports x)
       where
         at : (o : Option PortDecl) → option_map (link_out x) (option_map (λ (p : PortDecl). out_of p.provided) o) ≡ option_map (λ (p : PortDecl). link_out x (out_of p.provided)) o
         at None = refl
@@ -175,7 +181,7 @@ module _ (S : Declarations) (v : Parts) (tree : v.tree ≡ record { instances = 
           seen_by (leads_out v.numbers x d) (queue_of v.slots x d) ∙ ap (queue_by (leads_out v.numbers x d)) (opened.content x d)
           ∙ fresh_queue x d (leads_out v.numbers x d) (slice_get (port_links (port_outs ports)) x) refl
           ∙ ap (λ o. if leads_out v.numbers x d then None else option_map (empty_queue d) (option_map link_seen o)) (sym (opened.links_now x))
-          ∙ ap (λ b. if b then None else option_map (empty_queue d) (option_map link_seen (link_of v.wires.links x))) (out_is x d);
+          ∙ ap (λ b. if b then None else option_map (empty_queue d) (option_map link_seen (link_of v.wires.links x))) (out_is S v outs x d);
       controls = λ c. ap (λ rs. option_map row_seen (living_of rs c)) no_rows;
       bodies = λ c. ap (λ b. body_at b c) no_bodies;
     }

@@ -1,5 +1,5 @@
 -- What the conditions of the calls say of the parts.
-use Rattle.std.proofs.Common.{◌≡◌, ℕ, Bool, true, false, List, Option, Some, None, refl, sym, ap, ◌∙◌, if◌then◌else◌, ◌<◌}
+use Rattle.std.proofs.Common.{◌≡◌, ℕ, Bool, true, false, List, length, Option, Some, None, refl, sym, ap, ◌∙◌, if◌then◌else◌, ◌<◌}
 use Rattle.std.specs.Prelude.{is_some, slice_get}
 use Rattle.std.specs.Option.{IsSome, option_map, option_map_or, option_and_then}
 use Rattle.kom_base.specs.declared.numbers.Dir.{Dir}
@@ -98,6 +98,16 @@ module _ (v : Parts) where
       at : (b : Bool) (o : Option Waiting) → IsSome (option_and_then (λ q. first q.numbers) (queue_in b o)) → is_some o ≡ true
       at true o h = absurd (cc)
       at false None h = absurd (cc)
+      at false (Some w) h = refl
+
+  pub length_is : (x : ℕ) (d : Dir) → IsSome ((state_of v).queues x d)
+      → option_map_or (λ (w : Waiting). length w.numbers) (queue_of v.slots x d) 0 ≡ option_map_or (λ q. length q.numbers) ((state_of v).queues x d) 0
+  unfolding state_of
+  length_is x d h = at (leads_out v.numbers x d) (queue_of v.slots x d) h
+    where
+      at : (b : Bool) (o : Option Waiting) → IsSome (queue_in b o) → option_map_or (λ (w : Waiting). length w.numbers) o 0 ≡ option_map_or (λ q. length q.numbers) (queue_in b o) 0
+      at true o h = absurd (cc)
+      at false None h = refl
       at false (Some w) h = refl
 
   pub linked : (x : ℕ) → IsSome ((state_of v).links x) → IsSome (link_of v.wires.links x)

@@ -14,3 +14,4 @@ pub mod Reading
 pub mod Relinking
 pub mod Removing
 pub mod Reserving
+pub mod Together

@@ -1,10 +1,11 @@
 -- The numbers that the state keeps are those of the definitions of a run.
-use Rattle.std.proofs.Common.{◌≡◌, ℕ, zero, suc, ◌+◌, ◌-◌, ◌<◌, ◌≤◌, Bool, true, false, ◌&&◌, List, [], ◌∷◌, ◌++◌, length, map, Option, Some, None, refl, sym, ap, ◌∙◌, inl, inr, arith, if◌then◌else◌}
-use Rattle.std.specs.Prelude.{slice_get, ◌==◌, nat_lt}
+use Rattle.std.proofs.Common.{◌≡◌, ℕ, zero, suc, ◌+◌, ◌-◌, ◌<◌, Bool, true, false, ◌&&◌, List, [], ◌∷◌, ◌++◌, length, map, Option, Some, None, refl, sym, ap, ◌∙◌, arith, if◌then◌else◌}
+use Rattle.std.specs.Prelude.{slice_get, slice_index_or, ◌==◌, nat_lt}
+use Rattle.kom_base.specs.declared.numbers.Dir.{Dir}
 use Rattle.std.specs.List.{enumerate_from, flat_map, list_any}
 use Rattle.std.specs.Option.{option_map, option_map_or}
-use Rattle.std.proofs.lemmas.Bool.{ltb-true, ltb-false, lt-ltb, le-ltb}
-use Rattle.std.proofs.lemmas.List.{length-map}
+use Rattle.std.proofs.lemmas.Bool.{ltb-true, ltb-false}
+use Rattle.std.proofs.lemmas.List.{length-map, length-append}
 use Rattle.std.proofs.lemmas.List.FromFn.{length-enumerate_from}
 use Rattle.std.proofs.lemmas.Option.{slice_get-map}
 use Rattle.kom_lang.specs.Declarations.{Declarations, kind_of}
@@ -13,16 +14,16 @@ use Rattle.kom_lang.specs.declared.kind.PortDecl.{PortDecl}
 use Rattle.kom_record.specs.Model.{model}
 use Rattle.kom_record.specs.Entries.{Act}
 use Rattle.kom_record.specs.Instances.{Instance, born, ancestry_of}
-use Rattle.kom_record.specs.Channels.{Channel, Environment, Own, channels, channels_of}
+use Rattle.kom_record.specs.Channels.{Channel, Environment, Own, channels, channels_of, goes_out}
 use Rattle.kom_laws.proofs.ListFacts.{get_left, get_right}
-use Rattle.kom_numbers.specs.Numbering.{Numbering, wire_among, wire_at, channel_at, is_wire, is_pair, out_of}
+use Rattle.kom_numbers.specs.Numbering.{wire_among, wire_at, channel_at, is_pair, out_of, count_of, leads_out, total}
+use Rattle.kom_numbers.proofs.Ownership.{added, sum_is}
 use Rattle.kom_refine.specs.States.{Node}
 use Rattle.kom_refine.specs.Points.{node_of}
-use Rattle.kom_refine.specs.Steps.{names, dies, is_channel, lies_in, is_below}
+use Rattle.kom_refine.specs.Steps.{is_channel, lies_in, is_below}
 use Rattle.kom_state.specs.Parts.{Parts, state_of, IsOf}
-use Rattle.kom_state.specs.Removals.{dies_with}
-use Rattle.kom_state.specs.Laws.{AreNumbered, ChannelsAreNumbered}
-use Rattle.kom_state.proofs.Creating.{get_some}
+use Rattle.kom_state.specs.Laws.{AreNumbered, ChannelsAreNumbered, NumbersStay}
+use Rattle.kom_state.proofs.Begun.{out_is}
 
 -- the places of a numbered list
 place_at : {A B : Type 0} (f : ℕ → B) (b : ℕ) (xs : List A) (y : ℕ) → y < length xs → slice_get (map (λ (q : ℕ × A). f q.0) (enumerate_from b xs)) y ≡ Some (f (b + y))
@@ -128,12 +129,48 @@ module _ (S : Declarations) where
         at None = refl
         at (Some i) = refl
 
+    outer_is : (x : ℕ) (d : Dir) → goes_out S x d ≡ leads_out v.numbers x d
+    unfolding IsOf
+    outer_is x d = sym (out_is S v of.outs x d)
+
+    width_at : (is : List Instance) (c : ℕ) (i : Instance) → slice_get is c ≡ Some i → slice_index_or (map count_in is) c 0 ≡ count_in i
+    width_at [] c i e = absurd (cc)
+    width_at (j ∷ is) zero i e = let f : ◌≡◌ {A = Instance} j i = cc in ap count_in f
+    width_at (j ∷ is) (suc c) i e = width_at is c i e
+
+    width_is : (c : ℕ) (i : Instance) → slice_get (born S done) c ≡ Some i → count_of v.numbers c ≡ count_in i
+    width_is c i e = ap (λ ns. slice_index_or ns c 0) counts_are ∙ width_at (born S done) c i e
+
+    inner_long : (b : ℕ) (is : List Instance) → length (flat_map (channels_of S) (enumerate_from b is)) ≡ added (map count_in is)
+    inner_long b [] = refl
+    inner_long b (i ∷ is) =
+        length-append (channels_of S (b, i)) (flat_map (channels_of S) (enumerate_from (b + 1) is))
+        ∙ ap (λ k. k + length (flat_map (channels_of S) (enumerate_from (b + 1) is))) (own_long b i)
+        ∙ ap (λ k. count_in i + k) (inner_long (b + 1) is)
+
+    counted_is : length (channels S done) ≡ total v.numbers
+    unfolding model
+    counted_is =
+        length-append outer inner
+        ∙ ap (λ k. k + length inner) (outer_long ∙ sym outs_long)
+        ∙ ap (λ k. length v.numbers.outs + k) (inner_long 0 (born S done) ∙ ap added (sym counts_are) ∙ sym (sum_is v.numbers.counts))
+
     are_numbered : AreNumbered S done v
     are_numbered = record {
       channel = channel_is;
       named = λ c k x. ap (λ o. option_map_or (is_channel c k) o false) (channel_is x) ∙ by_wire (is_channel c k) (is_pair c k) (λ q. refl) (λ q. refl) x;
       dying = λ c slot x. ap (λ o. option_map_or (lies_in S done c slot) o false) (channel_is x) ∙ by_wire (lies_in S done c slot) (λ q. is_below (state_of v) c slot q.0) (λ q. refl) (λ q. lies_is c slot q.0) x;
+      outer = outer_is;
+      widths = width_is;
+      counted = counted_is;
     }
 
 pub channels_are_numbered : ChannelsAreNumbered
 channels_are_numbered S done v of stands = are_numbered S done v of stands
+
+pub numbers_stay : NumbersStay
+unfolding IsOf
+numbers_stay S v w of nodes outs counts = record {
+  outs = outs ∙ of.outs;
+  counts = counts ∙ of.counts ∙ ap (λ ns. map (λ k. length (kind_of S k).channels) (map (λ (n : Node). n.kind) ns)) (sym nodes);
+}

@@ -1,4 +1,5 @@
 pub mod Shelves
+pub mod Facts
 pub mod Insides
 pub mod Laws
 pub mod Openings

@@ -12,5 +12,5 @@ mod opening;
 mod state;
 
 pub use bodies::Bodies;
-pub use laws::channels_are_numbered;
+pub use laws::{channels_are_numbered, numbers_stay};
 pub use state::RunState;

@@ -1,9 +1,10 @@
 ghost use Rattle.std.specs.Prelude.{◌≡◌, ℕ, ◌<◌, ◌==◌, true, length, IsSome};
-ghost use Rattle.std.specs.Option.{option_copied, option_map, option_and_then};
+ghost use Rattle.std.specs.Option.{option_copied, option_map, option_map_or, option_and_then};
 ghost use Rattle.kom_base.specs.Lists.{first};
 ghost use Rattle.kom_numbers.specs.Numbering as numbering;
 ghost use Rattle.kom_refine.specs.Firsts.{IsFirst};
 ghost use Rattle.kom_refine.specs.States.{end_of};
+ghost use Rattle.kom_state.specs.Facts.{HoldsTogether};
 ghost use Rattle.kom_state.specs.Parts.{state_of};
 ghost use Rattle.kom_state.specs.Readings.{first_item, is_active, ancestry_at, nearest_in, front_seen, AreAtHalf};
 
@@ -92,6 +93,14 @@ impl RunState {
         self.wiring.at_half(half)
     }
 
+    /// How many numbers wait in a direction of a living channel that does not lead out.
+    pub fn waiting(&self, x: Chan, d: Dir) -> usize
+        requires { IsSome ((state_of self.now).queues x d) }
+        ensures { result ≡ option_map_or (λ q. length q.numbers) ((state_of self.now).queues x d) 0 }
+    {
+        self.queues.waiting(x, d)
+    }
+
     /// How many instances were created.
     pub fn instance_count(&self) -> u32
         ensures { result ≡ length (state_of self.now).nodes }
@@ -128,5 +137,13 @@ impl RunState {
         ensures { result ≡ numbering.leads_out self.now.numbers x d }
     {
         self.numbers.leads_out(x, d)
+    }
+
+    /// How the parts of the state hold together. The call gives a proof these facts, and does
+    /// nothing else.
+    pub fn holds_together(&self)
+        ensures { HoldsTogether self.now }
+    {
+        self.tree.well_grown();
     }
 }

@@ -1,0 +1,12 @@
+pub mod Begun
+pub mod Children
+pub mod Created
+pub mod Laid
+pub mod Numbered
+pub mod OneMore
+pub mod Room
+pub mod Rooted
+pub mod Shared
+pub mod Sown
+pub mod Sums
+pub mod Trees

@@ -1,0 +1,5 @@
+pub mod Laws
+pub mod Seeds
+pub mod Sharing
+pub mod Sowing
+pub mod Sprouts

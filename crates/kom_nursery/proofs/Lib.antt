@@ -1,0 +1,2 @@
+mod Broods
+mod Prepared
