@@ -182,14 +182,36 @@ impl Env {
         ensures spare { self.old.spare ≤ self.new.spare }
         ensures err { OnErr result (self.new ≡ self.old) }
     {
+        let out = self.coming(alloc)?;
+        self.pass();
+        Ok(out)
+    }
+
+    /// What the next release gives, where something is pending: first the raises in their order,
+    /// then timers and messages by number. The error is want of memory.
+    pub fn coming(&self, alloc: Global) -> Result<Releases, AllocError>
+        requires { IsSome (due_of self.now) }
+        ensures { IfOk result (λ out. out ≡ batch_of self.now (next_time self.now)) }
+    {
+        match self.next_due() {
+            Some(time) => self.batch(alloc, time),
+            None => unreachable!(),
+        }
+    }
+
+    /// Passes to the next release, where something is pending: what is due then is taken away, and
+    /// the clock moves to its time. It takes no memory.
+    pub fn pass(&mut self)
+        requires { IsSome (due_of self.old) }
+        ensures moves { self.new ≡ record (moved_on self.old) { spare = self.new.spare } }
+        ensures spare { self.old.spare ≤ self.new.spare }
+    {
         let Some(time) = self.next_due() else {
             unreachable!()
         };
-        let out = self.batch(alloc, time)?;
         self.agenda.discard_due(time);
         self.last = Some(time);
         self.releases = self.releases.saturating_add(1);
-        Ok(out)
     }
 
     /// What is due at a time that is the next.

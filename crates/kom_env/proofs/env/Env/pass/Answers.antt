@@ -6,7 +6,7 @@ use Rattle.kom_env.specs.Outside.{Outside, due_of, next_time, moved_on}
 use Rattle.kom_env.specs.Waiting.{is_due, scheduled}
 use Rattle.kom_env.specs.Seen.{AreUpTo, AreDueBy, farthest, outside_of}
 use Rattle.kom_env.proofs.Pending.{moved, clock_within, later_waits, none_sooner, time_within, due_wider, due_filter, up_to_filter}
-use Rattle.kom_env.proofs.env.Env.release.Goals as goal
+use Rattle.kom_env.proofs.env.Env.pass.Goals as goal
 
 pub invariant_of-self : goal.invariant_of-self
 invariant_of-self c =

@@ -1,0 +1,8 @@
+//! The ends of jobs in a run, each as an entry of its record.
+#![tactic(auto)]
+
+mod ended;
+mod voids;
+
+pub use ended::end_job;
+pub use voids::end_void;
