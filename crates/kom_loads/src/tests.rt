@@ -5,7 +5,7 @@ use kom_expand::expand;
 use kom_make::{make_scenario, make_system};
 use kom_record::Plan;
 use kom_scenario::{ScenarioRead, read_scenario};
-use kom_sysread::{PartsRead, read_parts};
+use kom_sysfile::{SystemRead, read_system};
 use kom_system::System;
 use std::alloc::{AllocError, Global};
 use std::test::Fail;
@@ -286,34 +286,118 @@ fn keeps_the_settings(rt: HostRuntime) -> Result<(), Fail> {
     Ok(())
 }
 
-/// How many events the generated scenario of a number has.
+/// The plan of a scenario for the system of a text; `None` also where one of them is not accepted.
+fn plan_by_texts(alloc: Global, system: &[u8], scenario: &[u8]) -> Option<Plan> {
+    if system.len() > 1048576 {
+        return None;
+    }
+    match read_system(alloc, system) {
+        SystemRead::System(system) => plan_of(alloc, scenario, &system),
+        SystemRead::Refused { .. } => None,
+        SystemRead::Memory => None,
+    }
+}
+
+/// The seed, the steps and instants, the bounds of delays, and how many events there are.
+fn outline(
+    alloc: Global,
+    system: &[u8],
+    scenario: &[u8],
+) -> Option<(u64, u32, u32, u32, u32, usize)> {
+    let plan = plan_by_texts(alloc, system, scenario)?;
+    let count = plan.raises.len();
+    Some((
+        plan.seed,
+        plan.steps,
+        plan.instants,
+        plan.lo,
+        plan.hi,
+        count,
+    ))
+}
+
+const PINGS: &[u8] = b"system 1;
+event Ping();
+event Pong();
+port P { plus Pong; minus Ping; }
+component A {
+  requires p : P;
+  on start as go { trigger Ping() at p; }
+  on Pong at p as h { trigger Ping() at p; }
+}
+component B { provides p : P; on Ping at p as h { trigger Pong() at p; } }
+component Main { slot a : A(); slot b : B(); channel k : P from b.p to a.p; }
+root Main();
+";
+
+const TIMERS: &[u8] = b"system 1;
+component Main {
+  requires t : Timer;
+  var log = 0;
+  on start as go {
+    trigger SetTimer(1, 0) at t;
+    trigger SetTimer(2, 5) at t;
+    trigger SetTimer(3, 5) at t;
+  }
+  on Timeout at t as h { log = log * 10 + it.id; if it.id == 2 { trigger CancelTimer(1) at t; } }
+}
+root Main();
+";
+
+const NODES: &[u8] = b"system 1;
+event Hi : Message (n);
+component Node {
+  requires net : Network;
+  var me = 0;
+  var got = 0;
+  on init(id) as born { me = id; }
+  on start as go { trigger Hi(me, 3 - me, me) at net; }
+  on Hi at net as h { got = got + it.n; }
+}
+component Main {
+  requires net : Network;
+  slot a : Node(1);
+  slot b : Node(2);
+  channel k : Network from self.net to a.net plus when Message.dst == 1;
+  channel l : Network from self.net to b.net plus when Message.dst == 2;
+}
+root Main();
+";
+
+#[test]
+fn reads_scenarios_for_the_systems_of_texts(rt: HostRuntime) -> Result<(), Fail> {
+    let cases: [(&[u8], &[u8], (u64, u32, u32, u32, u32, usize)); 4] = [
+        (PINGS, b"scenario 1; steps 10;", (0, 10, 100000, 1, 1, 0)),
+        (TIMERS, b"scenario 1;", (0, 100000, 100000, 1, 1, 0)),
+        (
+            NODES,
+            b"scenario 1; seed 42; network 7 7;",
+            (42, 100000, 100000, 7, 7, 0),
+        ),
+        (
+            NODES,
+            b"scenario 1; seed 42; network 5 20; at 3 raise Hi(9, 1, 4) at net;",
+            (42, 100000, 100000, 5, 20, 1),
+        ),
+    ];
+    for (system, scenario, want) in cases {
+        assert_eq!(rt; outline(rt.alloc(), system, scenario), Some(want));
+    }
+    Ok(())
+}
+
+/// How many events the generated scenario of a number has for the generated system.
 fn events_of(alloc: Global, n: u32) -> Result<Option<usize>, AllocError>
     requires { (1 ≤ n) × (n ≤ 30) }
 {
-    let system = ring_system(alloc)?;
-    let text = make_scenario(alloc, n)?;
-    Ok(plan_of(alloc, text.as_slice(), &system).map(|plan| plan.raises.len()))
-}
-
-/// Whether the generated system of a number is read.
-fn is_read(alloc: Global, n: u32) -> Result<bool, AllocError>
-    requires { (1 ≤ n) × (n ≤ 30) }
-{
-    let text = make_system(alloc, n)?;
-    if text.len() > 1048576 {
-        return Ok(false);
-    }
-    match read_parts(alloc, text.as_slice()) {
-        PartsRead::Parts(_) => Ok(true),
-        _ => Ok(false),
-    }
+    let system = make_system(alloc, n)?;
+    let scenario = make_scenario(alloc, n)?;
+    Ok(plan_by_texts(alloc, system.as_slice(), scenario.as_slice()).map(|plan| plan.raises.len()))
 }
 
 #[test]
 fn accepts_the_generated_texts(rt: HostRuntime) -> Result<(), Fail> {
     assert_eq!(rt; events_of(rt.alloc(), 1)?, Some(109));
     assert_eq!(rt; events_of(rt.alloc(), 30)?, Some(3299));
-    assert!(rt; is_read(rt.alloc(), 1)?);
-    assert!(rt; is_read(rt.alloc(), 30)?);
     Ok(())
 }
