@@ -220,6 +220,8 @@ fn lists_wakes(rt: HostRuntime) -> Result<(), Fail> {
     assert_eq!(rt; copy.len(), 2);
     assert_eq!(rt; copy.at(1), Some(&Comp(5)));
     assert_eq!(rt; copy.at(2), None);
+    let comps = Vec::from_slice(rt.alloc(), [Comp(1), Comp(4)].as_slice())?;
+    assert_eq!(rt; Wakes::of(comps).at(1), Some(&Comp(4)));
     Ok(())
 }
 

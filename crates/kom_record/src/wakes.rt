@@ -30,6 +30,13 @@ impl Wakes {
         }
     }
 
+    /// The components of a list that has each once, in rising order. It takes no memory.
+    pub fn of(comps: Vec<Comp>) -> Wakes
+        ensures { result ≡ comps.items }
+    {
+        Wakes { comps }
+    }
+
     /// Adds a component whose number is greater than all so far. The error is want of memory, and
     /// the list is then as before.
     pub fn push(&mut self, c: Comp) -> Result<(), AllocError>
