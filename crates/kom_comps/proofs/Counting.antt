@@ -1,5 +1,6 @@
 -- The numbers of a set, and how many there can be.
 use Rattle.std.proofs.Common.{◌≡◌, ℕ, suc, ◌+◌, ◌<◌, ◌≤◌, Bool, true, false, cond, eqb, ◌||◌, List, [], ◌∷◌, Option, Some, None, length, refl, sym, ap, ◌∙◌, subst, arith, ◌≢◌, ◌⊎◌, inl, inr, Ordering, Bor}
+use Rattle.std.specs.Prelude.{IfSome}
 use Rattle.std.specs.Option.{IsSome, is_some, option_copied}
 use Rattle.std.specs.Ordering.{nat_cmp, is_eq, is_lt}
 use Rattle.std.specs.declared.cmp.Ordering.TheVariants.{Less, Equal, Greater}
@@ -203,3 +204,11 @@ inserted_long c (e ∷ es) = elim (is_lt (nat_cmp c e.0)) as (λ b. length (cond
   | true ↦ omega arith
   | false ↦ omega (arith, inserted_long c es)
 ]
+
+pub long_keys : (es : List (ℕ × Unit {0})) → length (keys es) ≡ length es
+long_keys [] = refl
+long_keys (e ∷ es) = ap suc (long_keys es)
+
+pub is_below : (es : List (ℕ × Unit {0})) (spare count bound : ℕ) (c : Option ℕ) → IsSound es spare count bound → IsFirstFrom nat_cmp 0 es c → IfSome c (λ k. k < bound)
+is_below es spare count bound None s h = tt
+is_below es spare count bound (Some c) s h = s.within c h.0

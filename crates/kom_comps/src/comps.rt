@@ -1,4 +1,4 @@
-ghost use Rattle.std.specs.Prelude.{◌≡◌, ℕ, ◌<◌, ◌≤◌, ◌==◌, true, false, if◌then◌else◌, OnOk};
+ghost use Rattle.std.specs.Prelude.{◌≡◌, ℕ, ◌+◌, ◌<◌, ◌≤◌, ◌==◌, true, false, if◌then◌else◌, length, max, IfSome, OnOk};
 ghost use Rattle.kom_comps.specs.Members.{has, IsLeast};
 
 use kom_base::Comp;
@@ -48,6 +48,7 @@ impl Comps {
         ensures same { (c : ℕ) → has self.new c ≡ has self.old c }
         ensures ok { OnOk result (bound ≤ self.new.bound) }
         ensures not_less { self.old.bound ≤ self.new.bound }
+        ensures not_more { self.new.bound ≤ max self.old.bound bound }
     {
         if bound <= self.bound {
             return Ok(());
@@ -67,7 +68,8 @@ impl Comps {
 
     /// The component with the least number; `None` exactly where the set is empty.
     pub fn first(&self) -> Option<Comp>
-        ensures { IsLeast self.now result }
+        ensures least { IsLeast self.now result }
+        ensures below { IfSome result (λ c. c < self.now.bound) }
     {
         self.members.first_from(&Comp(0)).copied()
     }
@@ -77,6 +79,7 @@ impl Comps {
     pub fn set(&mut self, c: Comp, there: bool)
         requires { c < self.old.bound }
         ensures each { (d : ℕ) → has self.new d ≡ (if d == c then there else has self.old d) }
+        ensures count { length self.new.list + (if has self.old c then 1 else 0) ≡ length self.old.list + (if there then 1 else 0) }
         ensures bound { self.new.bound ≡ self.old.bound }
     {
         if there {
@@ -89,6 +92,7 @@ impl Comps {
     fn put(&mut self, c: Comp)
         requires { c < self.old.bound }
         ensures each { (d : ℕ) → has self.new d ≡ (if d == c then true else has self.old d) }
+        ensures count { length self.new.list + (if has self.old c then 1 else 0) ≡ length self.old.list + 1 }
         ensures bound { self.new.bound ≡ self.old.bound }
     {
         if !self.contains(c) {
@@ -99,6 +103,7 @@ impl Comps {
 
     fn take_out(&mut self, c: Comp)
         ensures each { (d : ℕ) → has self.new d ≡ (if d == c then false else has self.old d) }
+        ensures count { length self.new.list + (if has self.old c then 1 else 0) ≡ length self.old.list }
         ensures bound { self.new.bound ≡ self.old.bound }
     {
         if self.contains(c) {

@@ -146,8 +146,11 @@ module _ (void_follows : VoidFollows) (follows : FollowsADid) (busy_goes_on : Bu
           jobs = jobs_after S Z P w c hand outcome.Void None [] s.legal found (entries v.jobs) (entries n.jobs) s.jobs t.jobs;
           busy = no_more_busy S Z P w c hand.took outcome.Void None [] v.busy n.busy busy_goes_on legal s.busy t.busy;
           runnable_are = λ d. ap (λ m. has m d) t.runnable ∙ s.runnable_are d ∙ sym (same_runnable d);
+          unmarked = λ d. ap (λ m. has m d) t.marks ∙ s.unmarked d;
           busy_bound = let a = ap (λ x. length (state_of x).nodes) t.state in let b = t.busy_bound in let h = s.busy_bound in omega (arith, a, b, h);
           runnable_bound = let a = ap (λ x. length (state_of x).nodes) t.state in let b = ap (λ m. m.bound) t.runnable in let h = s.runnable_bound in omega (arith, a, b, h);
+          marks_bound = let a = ap (λ x. length (state_of x).nodes) t.state in let b = ap (λ m. m.bound) t.marks in let h = s.marks_bound in omega (arith, a, b, h);
+          marks_within = let a = ap (λ m. m.bound) t.marks in let b = ap (λ m. m.bound) t.runnable in let h = s.marks_within in omega (arith, a, b, h);
           counts_are = subst (λ k. AreCounted S Z Q k) (sym t.counts) counted;
         })
 

@@ -67,6 +67,7 @@ ended_after v k n w c e r t = record {
   busy = λ d. t.busy d ∙ ap (λ m. if d == c then false else has m d) r.busy;
   busy_bound = t.busy_bound ∙ ap (λ m. m.bound) r.busy;
   runnable = t.runnable ∙ r.runnable;
+  marks = t.marks ∙ r.marks;
   counts = t.counts ∙ r.counts;
 }
 

@@ -19,4 +19,5 @@ pub record IsJobEnded (w c : ℕ) (e : Entry) (v n : Run) : Type 0 where
   pub busy : (d : ℕ) → has n.busy d ≡ (if d == c then false else has v.busy d)
   pub busy_bound : n.busy.bound ≡ v.busy.bound
   pub runnable : n.runnable ≡ v.runnable
+  pub marks : n.marks ≡ v.marks
   pub counts : n.counts ≡ v.counts

@@ -139,7 +139,10 @@ same_stands v n e s =
       jobs = λ w. ap (value_of nat_cmp w) e.jobs ∙ s.jobs w;
       busy = λ c. ap (λ m. has m c) e.busy ∙ s.busy c;
       runnable_are = λ c. ap (λ m. has m c) e.runnable ∙ s.runnable_are c;
+      unmarked = λ c. ap (λ m. has m c) e.marks ∙ s.unmarked c;
       busy_bound = let a = ap (λ x. length (state_of x).nodes) e.state in let b = ap (λ m. m.bound) e.busy in let h = s.busy_bound in omega (arith, a, b, h);
       runnable_bound = let a = ap (λ x. length (state_of x).nodes) e.state in let b = ap (λ m. m.bound) e.runnable in let h = s.runnable_bound in omega (arith, a, b, h);
+      marks_bound = let a = ap (λ x. length (state_of x).nodes) e.state in let b = ap (λ m. m.bound) e.marks in let h = s.marks_bound in omega (arith, a, b, h);
+      marks_within = let a = ap (λ m. m.bound) e.marks in let b = ap (λ m. m.bound) e.runnable in let h = s.marks_within in omega (arith, a, b, h);
       counts_are = subst (λ k. AreCounted (system_of v) v.env.plan (history_of v) k) (sym e.counts) s.counts_are;
     })

@@ -132,6 +132,7 @@ noted_after v k n w c item e t = record {
   busy_bound = t.busy_bound ∙ ap (λ m. m.bound) e.busy;
   runnable = λ d. t.runnable d ∙ ap (λ m. if d == c then false else has m d) e.runnable;
   runnable_bound = t.runnable_bound ∙ ap (λ m. m.bound) e.runnable;
+  marks = t.marks ∙ e.marks;
   steps = t.steps ∙ ap (λ m. m.steps) e.counts;
   instants = t.instants ∙ ap (λ m. m.instants) e.counts;
   unhandled = t.unhandled ∙ ap (λ m. m.unhandled) e.counts;
@@ -238,7 +239,10 @@ module _ (took_follows : TookFollows) (untouched_stay : UntouchedStay) (takes_le
           jobs = jobs_after;
           busy = busy_after;
           runnable_are = runnable_after;
+          unmarked = λ d. ap (λ m. has m d) t.marks ∙ s.unmarked d;
           busy_bound = let a = same_long in let b = t.busy_bound in let h = s.busy_bound in omega (arith, a, b, h);
           runnable_bound = let a = same_long in let b = t.runnable_bound in let h = s.runnable_bound in omega (arith, a, b, h);
+          marks_bound = let a = same_long in let b = ap (λ m. m.bound) t.marks in let h = s.marks_bound in omega (arith, a, b, h);
+          marks_within = let a = ap (λ m. m.bound) t.marks in let b = t.runnable_bound in let h = s.marks_within in omega (arith, a, b, h);
           counts_are = counted;
         })

@@ -49,7 +49,7 @@ history_of v = v.kept.history
 
 -- The record R is legal for the plan, which fits the system. The state of the run and the environment
 -- stand for the record; the jobs, the busy and the runnable components are those of the record, with
--- room for each component that was created; and so are the counts.
+-- room for each component that was created, and none is marked; and so are the counts.
 pub record StandsFor (S : Declarations) (Z : Plan) (R : History) (v : Run) : Type 0 where
   pub fits : PlanFits S Z
   pub legal : IsLegal S Z R
@@ -59,8 +59,11 @@ pub record StandsFor (S : Declarations) (Z : Plan) (R : History) (v : Run) : Typ
   pub jobs : (w : ℕ) → value_of nat_cmp w (entries v.jobs) ≡ option_map held_of (job_of R w)
   pub busy : (c : ℕ) → has v.busy c ≡ is_busy S R c
   pub runnable_are : (c : ℕ) → has v.runnable c ≡ runnable S R c
+  pub unmarked : (c : ℕ) → has v.marks c ≡ false
   pub busy_bound : length (state_of v.state).nodes ≤ v.busy.bound
   pub runnable_bound : length (state_of v.state).nodes ≤ v.runnable.bound
+  pub marks_bound : length (state_of v.state).nodes ≤ v.marks.bound
+  pub marks_within : v.marks.bound ≤ v.runnable.bound
   pub counts_are : AreCounted S Z R v.counts
 
 abbrev pub Stands : Run → Type 0
@@ -79,6 +82,7 @@ pub record IsButForRoom (v n : Run) : Type 0 where
   pub jobs : entries n.jobs ≡ entries v.jobs
   pub busy : n.busy ≡ v.busy
   pub runnable : n.runnable ≡ v.runnable
+  pub marks : n.marks ≡ v.marks
   pub counts : n.counts ≡ v.counts
 
 -- w took the item for c: it is taken out of where it waited, and the job is in hand
@@ -93,6 +97,7 @@ pub record IsNoted (w c : ℕ) (item : Item) (v n : Run) : Type 0 where
   pub busy_bound : n.busy.bound ≡ v.busy.bound
   pub runnable : (d : ℕ) → has n.runnable d ≡ (if d == c then false else has v.runnable d)
   pub runnable_bound : n.runnable.bound ≡ v.runnable.bound
+  pub marks : n.marks ≡ v.marks
   pub steps : n.counts.steps + 1 ≡ v.counts.steps
   pub instants : n.counts.instants ≡ v.counts.instants
   pub unhandled : n.counts.unhandled ≡ v.counts.unhandled

@@ -29,5 +29,7 @@ pub struct Run {
     pub busy: Comps,
     /// The components that are runnable.
     pub runnable: Comps,
+    /// The components that a step has touched; none between calls.
+    pub marks: Comps,
     pub counts: Counts,
 }

@@ -1,5 +1,6 @@
-use Rattle.std.proofs.Common.{◌<◌, Some, sym, ap, ◌∙◌, subst, arith, length}
-use Rattle.kom_comps.proofs.Counting.{has_in, has_room, none_of, within_more, changed, inserted_long}
+use Rattle.std.proofs.Common.{◌≡◌, ◌+◌, ◌<◌, if◌then◌else◌, Some, sym, ap, ◌∙◌, subst, arith, length}
+use Rattle.kom_comps.specs.Sound.{keys}
+use Rattle.kom_comps.proofs.Counting.{has_in, has_room, none_of, within_more, changed, inserted_long, long_keys}
 use Rattle.kom_comps.proofs.comps.Comps.put.Goals as goal
 
 pub insert-requires-clause-absent : goal.insert-requires-clause-absent
@@ -37,3 +38,12 @@ invariant_of-self c =
 
 pub returns-then-not-contains-clause-each : goal.returns-then-not-contains-clause-each
 returns-then-not-contains-clause-each c = changed c.self.inside.members.0 c.insert.new.self.0 c.self.inside.bound c.args.c (Some tt) _ c.self.view_is c.insert.ensures.values
+
+pub returns-then-not-contains-clause-count : goal.returns-then-not-contains-clause-count
+returns-then-not-contains-clause-count c =
+    let long = ap length c.insert.ensures.new ∙ inserted_long c.args.c c.self.inside.members.0 in
+    let a = long_keys c.insert.new.self.0 in
+    let b = long_keys c.self.inside.members.0 in
+    let view = ap (λ m. length m.list) c.self.view_is in
+    let sum : length (keys c.insert.new.self.0) + 0 ≡ length c.args.self.now.list + 1 = omega (arith, long, a, b, view) in
+    ap (λ b. length (keys c.insert.new.self.0) + (if b then 1 else 0)) (sym c.contains.ensures ∙ c.if-not-contains.true) ∙ sum

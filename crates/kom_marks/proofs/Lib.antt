@@ -1,0 +1,4 @@
+pub mod Marking
+pub mod Rising
+pub mod Settled
+pub mod Settling
