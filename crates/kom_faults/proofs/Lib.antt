@@ -1,0 +1,2 @@
+pub mod Roomier
+pub mod Passive

@@ -1,0 +1,3 @@
+pub mod BySlots
+pub mod Living
+pub mod Putting
