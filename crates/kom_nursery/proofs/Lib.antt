@@ -1,2 +1,3 @@
 mod Broods
 mod Prepared
+pub mod Tops

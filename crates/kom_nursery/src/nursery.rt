@@ -7,6 +7,7 @@ ghost use Rattle.kom_state.specs.Rooms.{IsSame, HasNoLess};
 ghost use Rattle.kom_births.specs.Seeds.{links_of};
 ghost use Rattle.kom_births.specs.Sowing.{HasRooms};
 ghost use Rattle.kom_nursery.specs.Nurseries.{all_of, broods_of, AreCreatable, IsNext};
+ghost use Rattle.kom_nursery.specs.Tops.{TopsHaveRoom};
 
 use crate::one::brood_for;
 use kom_base::{Chan, Comp};
@@ -93,5 +94,35 @@ impl Nursery {
         }
         state.reserve_instances((first - state.instance_count()) as usize)?;
         state.reserve_channels((chan - state.channel_count()) as usize)
+    }
+
+    /// How many instances there are in all of them.
+    pub fn instances(&self) -> u32
+        requires { length (all_of self.now) ≤ 4000000000 }
+        ensures { result ≡ length (all_of self.now) }
+    {
+        let mut count = 0;
+        for brood in self.broods.as_slice() {
+            count += brood.len() as u32;
+        }
+        count
+    }
+
+    /// Makes room for `n` more control items of the first component of each of them, beside the one
+    /// that it may be created with, where they are planted next. It leaves the state as it is, and
+    /// on want of memory no less room than before.
+    pub fn reserve_tops(&self, state: &mut RunState, n: usize) -> Result<(), AllocError>
+        requires few { length (state_of state.old).nodes + length (all_of self.now) ≤ 4000000000 }
+        requires items { n ≤ 1000 }
+        ensures same { IsSame (state_of state.old) (state_of state.new) }
+        ensures not_less { HasNoLess state.old state.new }
+        ensures ok { OnOk result (TopsHaveRoom n self.now (length (state_of state.old).nodes) state.new) }
+    {
+        let mut first = state.instance_count();
+        for brood in self.broods.as_slice() {
+            state.reserve_controls(Comp(first), n + 1)?;
+            first += brood.len() as u32;
+        }
+        Ok(())
     }
 }

@@ -1,0 +1,5 @@
+pub mod Below
+pub mod Ends
+pub mod Laws
+pub mod Relinks
+pub mod Sown

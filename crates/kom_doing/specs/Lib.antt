@@ -1,0 +1,4 @@
+pub mod Effects
+pub mod Laws
+pub mod Marks
+pub mod Rooms
