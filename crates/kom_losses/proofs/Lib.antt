@@ -1,0 +1,3 @@
+pub mod Waiting
+pub mod Spans
+pub mod Wires
