@@ -1,0 +1,3 @@
+pub mod Ported
+pub mod Queued
+pub mod Short

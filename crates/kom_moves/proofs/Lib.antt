@@ -1,0 +1,4 @@
+pub mod Bringing
+pub mod Ports
+pub mod Moving
+pub mod Noting
