@@ -1,0 +1,4 @@
+pub mod Beginning
+pub mod Counting
+pub mod Enacted
+pub mod Shown

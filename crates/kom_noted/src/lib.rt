@@ -1,0 +1,6 @@
+//! The end of a handling noted in a run.
+#![tactic(auto)]
+
+mod noting;
+
+pub use noting::note_done;
