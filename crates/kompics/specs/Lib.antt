@@ -1,2 +1,3 @@
+pub mod Files
 pub mod Small
 pub mod Top

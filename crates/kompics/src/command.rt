@@ -4,9 +4,20 @@ ghost use Rattle.kompics.specs.Top.{IsNoCommand, IsCommand, make};
 use itoa::Buffer;
 use kom_io::Words;
 
+/// How the system of a file is written.
+#[derive(Clone, Copy, Debug)]
+pub enum Form {
+    /// By the version of the file.
+    AsItIs,
+    /// By the second version.
+    Upgraded,
+}
+
 /// What the words ask for.
 #[derive(Clone, Copy, Debug)]
 pub enum Command<'w> {
+    /// Writes the canonical text of the system of a file.
+    Print { form: Form, system: &'w str },
     /// Simulates the system of one file under the scenario of another.
     Sim { system: &'w str, scenario: &'w str },
     /// Writes the generated system of a number from 1 to 30.
@@ -49,6 +60,27 @@ fn making<'w>(number: &'w str, what: &'w str) -> Option<Command<'w>>
     None
 }
 
+/// The command of two words.
+#[tactic(auto, using(crate::proofs::Words::no_pair))]
+fn printing<'w>(first: &'w str, system: &'w str) -> Option<Command<'w>>
+    ensures { MatchOption result (IsNoCommand (first.now ∷ system.now ∷ [])) (λ c. IsCommand c (first.now ∷ system.now ∷ [])) }
+{
+    if first == "check" {
+        return Some(Command::Print {
+            form: Form::AsItIs,
+            system,
+        });
+    }
+    if first == "upgrade" {
+        return Some(Command::Print {
+            form: Form::Upgraded,
+            system,
+        });
+    }
+    None
+}
+
+/// The command of three words.
 #[tactic(auto, using(crate::proofs::Words::no_command))]
 fn parsed<'w>(first: &'w str, second: &'w str, third: &'w str) -> Option<Command<'w>>
     ensures { MatchOption result (IsNoCommand (first.now ∷ second.now ∷ third.now ∷ [])) (λ c. IsCommand c (first.now ∷ second.now ∷ third.now ∷ [])) }
@@ -66,10 +98,16 @@ fn parsed<'w>(first: &'w str, second: &'w str, third: &'w str) -> Option<Command
 }
 
 /// The command that the words are.
-#[tactic(auto, using(crate::proofs::Words::not_three, crate::proofs::Words::three))]
+#[tactic(auto, using(crate::proofs::Words::of_another_length, crate::proofs::Words::two, crate::proofs::Words::three))]
 pub fn command_of(words: &Words) -> Option<Command<'_>>
     ensures { MatchOption result (IsNoCommand words.now) (λ c. IsCommand c words.now) }
 {
+    if words.len() == 2 {
+        return match (words.at(0), words.at(1)) {
+            (Some(first), Some(second)) => printing(first, second),
+            _ => None,
+        };
+    }
     if words.len() != 3 {
         return None;
     }

@@ -19,7 +19,7 @@ const SCENARIO: &str = "scenario 1;";
 const TRACE: &str =
     "trace 1\n0 0 took 0 start\n1 0 did 0 done active\nend quiet\ntook 1 did 1 moved 0 queued 0 out 0\n";
 
-const USAGE: &str = "usage: kompics sim S Z | make N system|scenario\n";
+const USAGE: &str = "usage: kompics check S | sim S Z | make N system|scenario | upgrade S\n";
 
 const NO_SYSTEM: &str = "refused system rule 0 at 1:1\n";
 
@@ -316,5 +316,44 @@ fn knows_the_numbers_of_generated_texts(rt: HostRuntime) -> Result<(), Fail> {
     let (status, out) = sim(rt.alloc(), &["make", "7", "scenario"], b"", b"", &outside)?;
     assert_eq!(rt; status, 6);
     assert_eq!(rt; out.as_slice(), b"scenario 1;\nseed 7;\n".as_slice());
+    Ok(())
+}
+
+#[test]
+fn writes_the_canonical_text(rt: HostRuntime) -> Result<(), Fail> {
+    let canonical = "system 1 ;\ncomponent Main {\n}\nroot Main ( ) ;\n";
+    let upgraded = "system 2 ;\ncomponent Main {\n}\nroot Main ( ) ;\n";
+    for (words, system, status, text) in [
+        (["check", "s"], SYSTEM, 0, canonical),
+        (["check", "s"], canonical, 0, canonical),
+        (["upgrade", "s"], SYSTEM, 0, upgraded),
+        (["upgrade", "s"], upgraded, 0, upgraded),
+        (
+            ["check", "s"],
+            "system 3;",
+            1,
+            "refused system rule 4 at 1:8\n",
+        ),
+        (
+            ["upgrade", "s"],
+            "system 1;\nroot",
+            1,
+            "refused system rule 5 at 2:5\n",
+        ),
+        (["check", "x"], SYSTEM, 5, ""),
+        (["checks", "s"], SYSTEM, 2, USAGE),
+    ] {
+        let (got, out) = sim(rt.alloc(), &words, system.as_bytes(), b"", &PLAIN)?;
+        assert_eq!(rt; got, status, "{system}");
+        assert_eq!(rt; out.as_slice(), text.as_bytes(), "{system}");
+    }
+    let mut long = SYSTEM.as_bytes().to_vec(rt.alloc())?;
+    long.resize(1048577, b' ')?;
+    let (status, out) = sim(rt.alloc(), &["check", "s"], long.as_slice(), b"", &PLAIN)?;
+    assert_eq!(rt; status, 1);
+    assert_eq!(rt;
+        out.as_slice(),
+        b"refused system rule 1 at 1:1\n".as_slice()
+    );
     Ok(())
 }
