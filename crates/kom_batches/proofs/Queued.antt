@@ -1,4 +1,4 @@
--- How many events can wait in channels.
+-- How many events can wait in channels, and how many can have gone out.
 use Rattle.std.proofs.Common.{◌≡◌, ℕ, zero, suc, ◌+◌, ◌*◌, ◌<◌, ◌≤◌, Bool, true, false, if◌then◌else◌, not, ◌&&◌, ◌==◌, refl, sym, ap, ◌∙◌, List, [], ◌∷◌, ◌++◌, length, map, Option, Some, None, arith}
 use Rattle.std.specs.Prelude.{is_some, nat_lt, slice_get}
 use Rattle.std.specs.Option.{option_map_or}
@@ -28,7 +28,7 @@ use Rattle.kom_record.specs.Instances.{born}
 use Rattle.kom_record.specs.Offers.{Offer, offers}
 use Rattle.kom_record.specs.Plans.{PlanFits}
 use Rattle.kom_record.specs.Queues.{Envelope, entered, entering, enters, is_among, received, waiting}
-use Rattle.kom_record.specs.Ready.{directions, queued}
+use Rattle.kom_record.specs.Ready.{directions, out, queued}
 use Rattle.kom_system.specs.WellFormed.{IsDeclared}
 use Rattle.kom_batches.proofs.Ported.{at_ports}
 use Rattle.kom_batches.proofs.Short.{few_made, few_kept, few_offers, short}
@@ -235,19 +235,37 @@ module _ (S : Declarations) where
   if_less true n m h = h
   if_less false n m h = omega arith
 
-  pub queue_short : (Z : Plan) → ActsAreBounded → RecordsAreShort → NumbersAreEnough → (P : History) → IsDeclared S → PlanFits S Z → IsLegal S Z P → queued S P ≤ 100000000000000000
-  unfolding queued directions
-  queue_short Z bounded shorts enough P d fits l =
-      let n = enough S Z P [] d fits l (omega arith) in
-      let long = long_ways 0 (channels S (acts P)) in
-      let m = n.channels_few in
-      let few : length (both_ways 0 (channels S (acts P))) ≤ 6400002032 = omega (arith, long, m) in
-      let a = few_entered Z (channels S (acts P)) few (ports_first P) bounded shorts fits P l in
-      let b = bounded S Z P l in
-      let c = shorts S Z P l in
-      let s = fits.steps in
-      let i = fits.instants in
-      let q = sum_less (λ (x : ℕ × Dir). if is_living S (acts P) x.0 && not (goes_out S x.0 x.1) then length (waiting S P x.0 x.1) else 0) (λ x. length (entered S P x.0 x.1))
-      (λ x. if_less (is_living S (acts P) x.0 && not (goes_out S x.0 x.1)) _ _ (few_waiting P x.0 x.1)) (both_ways 0 (channels S (acts P)))
-      in
-      omega (arith, a, b, c, s, i, q)
+  module _ (Z : Plan) (bounded : ActsAreBounded) (shorts : RecordsAreShort) (enough : NumbersAreEnough) (P : History) (d : IsDeclared S) (fits : PlanFits S Z) (l : IsLegal S Z P) where
+    abbrev ways : List (ℕ × Dir)
+    ways = both_ways 0 (channels S (acts P))
+
+    all_short : sum_by (λ (x : ℕ × Dir). length (entered S P x.0 x.1)) ways ≤ 100000000000000000
+    all_short =
+        let n = enough S Z P [] d fits l (omega arith) in
+        let long = long_ways 0 (channels S (acts P)) in
+        let m = n.channels_few in
+        let few : length (both_ways 0 (channels S (acts P))) ≤ 6400002032 = omega (arith, long, m) in
+        let a = few_entered Z (channels S (acts P)) few (ports_first P) bounded shorts fits P l in
+        let b = bounded S Z P l in
+        let c = shorts S Z P l in
+        let s = fits.steps in
+        let i = fits.instants in
+        omega (arith, a, b, c, s, i)
+
+    pub queue_short : queued S P ≤ 100000000000000000
+    unfolding queued directions
+    queue_short =
+        let a = all_short in
+        let q = sum_less (λ (x : ℕ × Dir). if is_living S (acts P) x.0 && not (goes_out S x.0 x.1) then length (waiting S P x.0 x.1) else 0) (λ x. length (entered S P x.0 x.1))
+        (λ x. if_less (is_living S (acts P) x.0 && not (goes_out S x.0 x.1)) _ _ (few_waiting P x.0 x.1)) ways
+        in
+        omega (arith, a, q)
+
+    pub out_short : out S P ≤ 100000000000000000
+    unfolding out directions
+    out_short =
+        let a = all_short in
+        let q = sum_less (λ (x : ℕ × Dir). if goes_out S x.0 x.1 then length (entered S P x.0 x.1) else 0) (λ x. length (entered S P x.0 x.1))
+        (λ x. if_less (goes_out S x.0 x.1) _ _ (omega arith)) ways
+        in
+        omega (arith, a, q)

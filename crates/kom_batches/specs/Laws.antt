@@ -10,7 +10,7 @@ use Rattle.kom_record.specs.Entries.{History}
 use Rattle.kom_record.specs.Legal.{IsLegal}
 use Rattle.kom_record.specs.Plans.{PlanFits}
 use Rattle.kom_record.specs.Queues.{entering}
-use Rattle.kom_record.specs.Ready.{directions, queued}
+use Rattle.kom_record.specs.Ready.{directions, out, queued}
 use Rattle.kom_record.specs.Time.{batch}
 use Rattle.kom_system.specs.WellFormed.{IsDeclared}
 
@@ -30,3 +30,7 @@ ReleasesAreCounted = (S : Declarations) (P : History) (w t : ℕ) (released : Li
 -- an offer enters each direction at most once
 abbrev pub QueuesAreShort : Type 0
 QueuesAreShort = (S : Declarations) (Z : Plan) (P : History) → IsDeclared S → PlanFits S Z → IsLegal S Z P → queued S P ≤ 100000000000000000
+
+-- so does one that goes out
+abbrev pub OutsAreShort : Type 0
+OutsAreShort = (S : Declarations) (Z : Plan) (P : History) → IsDeclared S → PlanFits S Z → IsLegal S Z P → out S P ≤ 100000000000000000

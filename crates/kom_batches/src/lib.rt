@@ -1,7 +1,8 @@
-//! Laws of what the environment releases at a time; there is no code.
+//! Laws of what the environment releases at a time, and of how much can wait and go out; there is no
+//! code.
 #![tactic(auto)]
 
-ghost use Rattle.kom_batches.specs.Laws.{BatchesAreAtPorts, BatchesAreShort, ReleasesAreCounted, QueuesAreShort};
+ghost use Rattle.kom_batches.specs.Laws.{BatchesAreAtPorts, BatchesAreShort, ReleasesAreCounted, OutsAreShort, QueuesAreShort};
 
 use kom_limits::{acts_are_bounded, numbers_are_enough, records_are_short};
 
@@ -28,6 +29,16 @@ pub fn releases_are_counted()
 /// so that their number fits 64 bits.
 pub fn queues_are_short()
     ensures { QueuesAreShort }
+{
+    acts_are_bounded();
+    records_are_short();
+    numbers_are_enough();
+}
+
+/// After a legal record of a plan that fits, at most 100,000,000,000,000,000 events have gone out to
+/// the environment, so that their number fits 64 bits.
+pub fn outs_are_short()
+    ensures { OutsAreShort }
 {
     acts_are_bounded();
     records_are_short();

@@ -7,7 +7,6 @@ use Rattle.kom_index.specs.Stock.{entries}
 use Rattle.kom_lang.specs.Declarations.{Declarations}
 use Rattle.kom_lang.specs.declared.body.Body.{Body}
 use Rattle.kom_lang.specs.declared.body.Effect.{Effect}
-use Rattle.kom_record.specs.Offers.{offers}
 use Rattle.kom_record.specs.Queues.{unreached}
 use Rattle.kom_record.specs.declared.plan.Plan.{Plan}
 use Rattle.kom_record.specs.declared.entry.Outcome.{Outcome}
@@ -17,12 +16,9 @@ use Rattle.kom_record.specs.declared.entry.Entry.TheVariants.{Did}
 use Rattle.kom_record.specs.Answers.{did, job_of, recorded}
 use Rattle.kom_record.specs.Controls.{told}
 use Rattle.kom_record.specs.Instances.{alive}
-use Rattle.kom_record.specs.Entries.{History, TakenJob, acts, in_hand, item_at}
-use Rattle.kom_record.specs.Legal.{IsLegal, MayDo, MayEnd}
+use Rattle.kom_record.specs.Entries.{History, TakenJob, acts, item_at}
+use Rattle.kom_record.specs.Legal.{IsLegal}
 use Rattle.kom_record.specs.Ready.{has_unhandled, is_busy}
-use Rattle.kom_laws.proofs.ActLaws.{job_item}
-use Rattle.kom_laws.proofs.Handlings.{found_in}
-use Rattle.kom_laws.proofs.Members.{IsIn}
 use Rattle.kom_refine.specs.Points.{StandsAt, start_of}
 use Rattle.kom_refine.specs.Within.{HandlingsEnd}
 use Rattle.kom_state.specs.Parts.{state_of}
@@ -33,9 +29,10 @@ use Rattle.kom_marks.specs.Settling.{IsUnsettled, UnmarkedStay}
 use Rattle.kom_raised.specs.Raised.{DonesAreTold, is_raised}
 use Rattle.kom_turns.specs.declared.run.Run.{Run}
 use Rattle.kom_turns.specs.Runs.{AreCounted, Stands, history_of, system_of}
-use Rattle.kom_endings.proofs.Hands.{by_took, one_less_job}
+use Rattle.kom_endings.proofs.Hands.{one_less_job}
 use Rattle.kom_endings.proofs.Dids.{jobs_after, no_more_busy}
 use Rattle.kom_dones.specs.Dones.{IsDoneWith, IsDue, done_by}
+use Rattle.kom_dones.proofs.Lawful as lawful
 
 module _ (ends : HandlingsEnd) (follows : FollowsADid) (busy_goes_on : BusyGoesOn) (counts_go_on : CountsGoOn) (unmarked_stay : UnmarkedStay) (told_is : DonesAreTold)
     (w c : ℕ) (hand : TakenJob) (old body : Body) (effects : List Effect) (near : Option (ℕ × ℕ)) (to : Option ℕ) (places : List ℕ) (v n : Run)
@@ -58,35 +55,11 @@ module _ (ends : HandlingsEnd) (follows : FollowsADid) (busy_goes_on : BusyGoesO
   abbrev Q : History
   Q = the_did ∷ P
 
-  held : IsIn hand (in_hand P) × (hand.w == w) ≡ true
-  unfolding job_of
-  held = found_in (λ j. j.w == w) (in_hand P) hand due.found
-
   item_is : item_at P hand.took ≡ Some hand.item
-  item_is = job_item P hand held.0
-
-  -- what is unreached does not depend on who is told
-  same_places : unreached S P (done_by w c hand body effects None []) ≡ unreached S P the_did
-  unfolding unreached offers
-  same_places = refl
-
-  may : MayDo S Z P w c hand.took o to places
-  unfolding MayEnd
-  may = record {
-    job = hand;
-    body = old;
-    in_hand = by_took P w hand due.found;
-    worker = eqb-true hand.w w held.1;
-    component = due.component;
-    body_is = due.body_is;
-    outcome = subst (λ t. MayEnd S Z t old hand.item o) (sym due.lives) due.reacts;
-    told = due.told ∙ sym (told_is S P w c hand.took hand.item body effects to places near item_is due.near_is).told_is;
-    unreached = due.unreached_are ∙ same_places;
-  }
+  item_is = lawful.item_is told_is w c hand old body effects near to places v due
 
   legal : IsLegal S Z Q
-  unfolding IsLegal
-  legal = (s.legal, may)
+  legal = lawful.legal told_is w c hand old body effects near to places v due s
 
   stands : StandsAt S (start_of Q) (state_of n.state)
   stands = ends S Z P w c hand.took hand.item body effects to places t.between (state_of n.state) legal item_is t.ended t.acted
@@ -146,12 +119,10 @@ module _ (ends : HandlingsEnd) (follows : FollowsADid) (busy_goes_on : BusyGoesO
 module _ (told_is : DonesAreTold) (w c : ℕ) (hand : TakenJob) (old body : Body) (effects : List Effect) (near : Option (ℕ × ℕ)) (to : Option ℕ) (places : List ℕ) (v : Run)
     (due : IsDue w c hand old body effects near to places v) where
   same_worker : hand.w ≡ w
-  unfolding job_of
-  same_worker = eqb-true hand.w w (found_in (λ j. j.w == w) (in_hand (history_of v)) hand due.found).1
+  same_worker = eqb-true hand.w w (lawful.held told_is w c hand old body effects near to places v due).1
 
   item_there : item_at (history_of v) hand.took ≡ Some hand.item
-  unfolding job_of
-  item_there = job_item (history_of v) hand (found_in (λ j. j.w == w) (in_hand (history_of v)) hand due.found).0
+  item_there = lawful.item_is told_is w c hand old body effects near to places v due
 
   pub is_recorded : (o : Outcome) → o ≡ outcome.Done body effects
       → done_by w c hand body effects to places ∷ history_of v ≡ did (system_of v) (history_of v) hand (recorded (alive (system_of v) (acts (history_of v)) c) o) ∷ history_of v

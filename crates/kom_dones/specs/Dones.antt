@@ -16,6 +16,7 @@ use Rattle.kom_record.specs.Answers.{did, job_of, recorded}
 use Rattle.kom_record.specs.Bodies.{body_at, catches, nearest}
 use Rattle.kom_record.specs.Entries.{TakenJob, acts}
 use Rattle.kom_record.specs.Instances.{alive}
+use Rattle.kom_record.specs.Legal.{IsLegal}
 use Rattle.kom_record.specs.Queues.{unreached}
 use Rattle.kom_record.specs.Reaction.{Reacts}
 use Rattle.kom_record.specs.Ready.{out, queued}
@@ -79,6 +80,11 @@ abbrev pub DonesUnsettle : Type 0
 DonesUnsettle = (w c : ℕ) (hand : TakenJob) (old body : Body) (effects : List Effect) (near : Option (ℕ × ℕ)) (to : Option ℕ) (places : List ℕ) (v n : Run)
     → Stands v → IsDue w c hand old body effects near to places v → IsDoneWith w c hand body effects near to places v n
     → IsUnsettled (system_of v) v.env.plan (history_of v) (done_by w c hand body effects to places) n
+
+-- the record with the entry is legal
+abbrev pub DonesAreLegal : Type 0
+DonesAreLegal = (w c : ℕ) (hand : TakenJob) (old body : Body) (effects : List Effect) (near : Option (ℕ × ℕ)) (to : Option ℕ) (places : List ℕ) (v : Run)
+    → Stands v → IsDue w c hand old body effects near to places v → IsLegal (system_of v) v.env.plan (done_by w c hand body effects to places ∷ history_of v)
 
 -- and the entry is the one that ends the job, when this outcome is recorded
 abbrev pub DonesAreRecorded : Type 0

@@ -1,7 +1,7 @@
-//! The law by which a run goes on to the end of a handling; there is no code.
+//! Laws by which a run goes on to the end of a handling; there is no code.
 #![tactic(auto)]
 
-ghost use Rattle.kom_dones.specs.Dones.{DonesAreRecorded, DonesUnsettle};
+ghost use Rattle.kom_dones.specs.Dones.{DonesAreLegal, DonesAreRecorded, DonesUnsettle};
 
 use kom_marks::unmarked_stay;
 use kom_raised::dones_are_told;
@@ -19,6 +19,13 @@ pub fn dones_unsettle()
     busy_goes_on();
     counts_go_on();
     unmarked_stay();
+    dones_are_told();
+}
+
+/// Where a job ends with the reaction to its item, the record with the entry is legal.
+pub fn dones_are_legal()
+    ensures { DonesAreLegal }
+{
     dones_are_told();
 }
 
