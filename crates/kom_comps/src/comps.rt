@@ -59,6 +59,13 @@ impl Comps {
         Ok(())
     }
 
+    /// All numbers in the set are below it, and there is room for each number below it.
+    pub fn bound(&self) -> u32
+        ensures { result ≡ self.now.bound }
+    {
+        self.bound
+    }
+
     /// Whether a component is in the set.
     pub fn contains(&self, c: Comp) -> bool
         ensures { result ≡ has self.now c }
