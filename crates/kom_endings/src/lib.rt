@@ -4,5 +4,5 @@
 mod ended;
 mod voids;
 
-pub use ended::end_job;
+pub use ended::{end_job, position_of};
 pub use voids::end_void;

@@ -1,15 +1,11 @@
-ghost use Rattle.std.specs.Prelude.{◌≡◌, ◌≤◌, false, IfOk, OnOk, OnErr, IsSome, Some};
-ghost use Rattle.std.specs.Option.{option_map};
-ghost use Rattle.std.specs.Ordering.{nat_cmp};
-ghost use Rattle.kom_index.specs.Entries.{value_of};
-ghost use Rattle.kom_index.specs.Stock.{entries};
+ghost use Rattle.std.specs.Prelude.{◌≡◌, ◌≤◌, false, IfOk, OnOk, OnErr};
 ghost use Rattle.std.specs.Arc.{arc_value};
 ghost use Rattle.kom_record.specs.Answers.{IsCommit, IsInHand};
 ghost use Rattle.kom_record.specs.Entries.{acts};
 ghost use Rattle.kom_record.specs.Instances.{alive};
 ghost use Rattle.kom_turns.specs.Runs.{IsRun, IsButForRoom, system_of, history_of};
 
-use crate::ended::end_job;
+use crate::ended::{end_job, position_of};
 use kom_record::{Entry, Outcome, Ran, Wakes};
 use kom_refine::void_follows;
 use kom_times::follows_a_did;
@@ -55,17 +51,6 @@ pub fn end_void(run: &mut Run, alloc: Global, ran: &Ran) -> Result<Wakes, AllocE
     };
     end_job(run, ran.job.w, ran.job.c, did);
     Ok(Wakes::new(alloc))
-}
-
-/// The position of the Took of a worker's job.
-fn position_of(run: &Run, w: u32) -> u32
-    requires { IsSome (value_of nat_cmp w (entries run.now.jobs)) }
-    ensures { option_map (λ h. h.took) (value_of nat_cmp w (entries run.now.jobs)) ≡ Some result }
-{
-    match run.jobs.get(&w) {
-        Some(held) => held.took,
-        None => unreachable!(),
-    }
 }
 
 /// Makes room for one more entry. On want of memory all is as before.

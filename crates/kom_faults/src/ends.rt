@@ -1,9 +1,6 @@
 ghost use Rattle.std.specs.Prelude.{◌≡◌, true, IfOk, OnErr, IsSome, Some};
 ghost use Rattle.std.specs.Option.{option_map};
-ghost use Rattle.std.specs.Ordering.{nat_cmp};
 ghost use Rattle.std.specs.Arc.{arc_value};
-ghost use Rattle.kom_index.specs.Entries.{value_of};
-ghost use Rattle.kom_index.specs.Stock.{entries};
 ghost use Rattle.kom_record.specs.Answers.{IsCommit, IsInHand};
 ghost use Rattle.kom_record.specs.Entries.{acts};
 ghost use Rattle.kom_record.specs.Instances.{alive};
@@ -13,7 +10,7 @@ ghost use Rattle.kom_faults.specs.Faulted.{fault_of};
 use crate::noted::note_fault;
 use crate::room::make_room;
 use kom_base::Comp;
-use kom_endings::end_job;
+use kom_endings::{end_job, position_of};
 use kom_marks::{settle, settled_stands, unmarked_stay};
 use kom_puts::{faults_are_put, same_states_follow, told_of};
 use kom_record::{Entry, Outcome, Ran, Wakes};
@@ -87,16 +84,5 @@ fn component_of(told: &Option<(Comp, u8)>) -> Option<Comp>
     match told {
         Some((d, _)) => Some(*d),
         None => None,
-    }
-}
-
-/// The position of the Took of a worker's job.
-fn position_of(run: &Run, w: u32) -> u32
-    requires { IsSome (value_of nat_cmp w (entries run.now.jobs)) }
-    ensures { option_map (λ h. h.took) (value_of nat_cmp w (entries run.now.jobs)) ≡ Some result }
-{
-    match run.jobs.get(&w) {
-        Some(held) => held.took,
-        None => unreachable!(),
     }
 }
