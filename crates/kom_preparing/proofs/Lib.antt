@@ -1,0 +1,4 @@
+pub mod Carried
+pub mod Ended
+pub mod Roomy
+pub mod Whole
