@@ -1,0 +1,8 @@
+//! A station over the kept state of a run.
+#![tactic(auto)]
+
+mod ends;
+mod machine;
+mod ready;
+
+pub use machine::{Begun, Core};
