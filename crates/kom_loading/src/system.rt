@@ -1,4 +1,4 @@
-ghost use Rattle.std.specs.Prelude.{◌≡◌, ℕ, List, length, ◌≤◌};
+ghost use Rattle.std.specs.Prelude.{◌≡◌, ℕ, List};
 ghost use Rattle.kom_io.specs.Faults.{Rose, RisesOnlyAt};
 ghost use Rattle.kom_loading.specs.Loading.{IsLoaded, IsRead};
 
@@ -8,7 +8,7 @@ use kom_system::System;
 use std::alloc::Global;
 
 /// The greatest length of a file, in bytes.
-const FILE_LIMIT: usize = 1048576;
+pub(crate) const FILE_LIMIT: usize = 1048576;
 
 /// The answer of [`load_system`].
 #[derive(Drop)]
@@ -44,15 +44,21 @@ pub fn load_system<S: Shelf>(alloc: Global, shelf: &mut S, name: &str) -> Loaded
         TextRead::ReadFault => return Loaded::ShelfFault,
         TextRead::Memory => return Loaded::Memory,
     };
-    loaded_from(alloc, text.as_slice())
+    system_of(alloc, text.as_slice())
 }
 
-/// What the text of a file comes to.
-#[tactic(auto, using(crate::proofs::Broken::refused))]
-fn loaded_from(alloc: Global, text: &[u8]) -> Loaded
-    requires { length text.now ≤ 1048576 }
+/// Reads the system of a text. A text of more than 1,048,576 bytes breaks rule 1 at 1:1.
+#[tactic(auto, using(crate::proofs::Broken::refused, crate::proofs::Broken::over_limit))]
+pub fn system_of(alloc: Global, text: &[u8]) -> Loaded
     ensures { IsRead text.now result }
 {
+    if text.len() > FILE_LIMIT {
+        return Loaded::Refused {
+            rule: 1,
+            line: 1,
+            column: 1,
+        };
+    }
     match read_system(alloc, text) {
         SystemRead::System(system) => Loaded::System(system),
         SystemRead::Refused { rule, line, column } => Loaded::Refused { rule, line, column },

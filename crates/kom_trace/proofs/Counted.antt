@@ -131,6 +131,9 @@ module _ (S : Declarations) where
       ∙ ap (λ b. is_some (first_unhandled S P) || b) (sym (some_new P e))
       ∙ sym (some_either (first_unhandled S P) (if is_unhandled S P e then fault_and_component P e else None))
 
+  pub counts_unhandled : (n : Counts) (P : History) → HasCounted S n P → is_some n.unhandled ≡ has_unhandled S P
+  counts_unhandled n P h = ap is_some h.unhandled ∙ sym (has_first P)
+
   pub counted_more : (Z : Plan) (n new : Counts) (P : History) (e : Entry) → HasCounted S n P → ∥ IsLegal S Z (e ∷ P) ∥₁ → length n.faults.items < 2 ^ 63
       → new.faults.items ≡ n.faults.items ++ fault_taken e ∷ []
       → new.took ≡ min (n.took + count_by is_took (e ∷ [])) 18446744073709551615

@@ -6,7 +6,7 @@ ghost use Rattle.kom_lang.specs.Steps as steps;
 ghost use Rattle.kom_record.specs.declared.plan.Plan.{Plan};
 ghost use Rattle.kom_record.specs.Entries.{History};
 ghost use Rattle.kom_record.specs.Legal.{IsLegal};
-ghost use Rattle.kom_record.specs.Ready.{is_took, is_moved};
+ghost use Rattle.kom_record.specs.Ready.{is_took, is_moved, has_unhandled};
 ghost use Rattle.kom_record.specs.Trace.{is_did};
 ghost use Rattle.kom_trace.specs.Counting.{fault_taken, fault_at, raised_by, untold, unhandled_by, HasCounted, first_entries};
 
@@ -49,6 +49,13 @@ impl Counts {
         ensures { result ≡ length self.now.faults.items }
     {
         self.faults.len() as u64
+    }
+
+    /// Whether there was a fault of which no ancestor was told.
+    pub fn has_unhandled(&self) -> bool
+        ensures { (S : Declarations) (P : History) → HasCounted S self.now P → result ≡ has_unhandled S P }
+    {
+        self.unhandled.is_some()
     }
 
     /// Makes room for an entry. What is counted is the same either way.
