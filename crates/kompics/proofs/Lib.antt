@@ -1,2 +1,4 @@
-mod SmallLaws
+mod Ending
+mod Finding
+mod Promising
 mod Words

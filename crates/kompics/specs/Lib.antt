@@ -1,3 +1,5 @@
-pub mod Files
-pub mod Small
+pub mod Found
+pub mod Promises
+pub mod Runs
 pub mod Top
+pub mod Words

@@ -1,183 +1,95 @@
 -- What the program answers: its statuses, its output and the record that it keeps.
-use Rattle.std.specs.Prelude.{◌≡◌, ◌≢◌, ◌⊎◌, ◌++◌, ℕ, ◌≤◌, List, [], ◌∷◌, Option, Some, None, codes, decimal, string_bytes}
+use Rattle.std.specs.Prelude.{◌≡◌, ◌⊎◌, ◌++◌, ℕ, Bool, true, false, ◌≤◌, List, Option, Some, None, codes, string_bytes}
 use Rattle.std.specs.Option.{option_map}
+use Rattle.std.specs.Arc.{arc_value}
 use Rattle.kom_io.specs.Faults.{Rose}
 use Rattle.kom_io.specs.Texts.{AddsPrefix}
-use Rattle.kompics.specs.Small.Systems.{System, Plan, IsSystem, IsScenario}
-use Rattle.kompics.specs.Small.Records.{History, IsSimulation}
-use Rattle.kompics.specs.Small.Traces.{trace_text, newline}
+use Rattle.kom_system.specs.Contents.{Contents, upgraded}
+use Rattle.kom_sysprint.specs.Canonical.{canonical_text}
 use Rattle.kom_make.specs.Texts.{system_text, scenario_text}
-use Rattle.kom_system.specs.Contents.{Contents}
-use Rattle.kompics.specs.Files.{Files, print, text_in, IsPrinted, IsRefusedFile, IsStoppedFile}
+use Rattle.kom_record.specs.declared.plan.Plan.{Plan}
+use Rattle.kom_record.specs.Kept.{Kept}
+use Rattle.kom_trace.specs.Seen.{written_of}
+use Rattle.kom_loading.specs.Loading.{Stands, IsRefused, refusal_line}
+use Rattle.kom_loading.specs.Scenarios.{IsPlanOf, IsRefusedFor}
 use Rattle.kompics.specs.declared.command.Form.{Form}
-use Rattle.kompics.specs.declared.command.Command.{Command}
-use Rattle.kompics.specs.declared.command.Command.TheVariants as command
-use Rattle.kompics.specs.declared.top.Answer.{Answer}
-use Rattle.kompics.specs.declared.top.Answer.TheVariants as answer
+use Rattle.kompics.specs.declared.command.Form.TheVariants.{AsItIs, Upgraded}
+use Rattle.kompics.specs.declared.answer.Answer.{Answer}
+use Rattle.kompics.specs.declared.answer.Answer.TheVariants as answer
+use Rattle.kompics.specs.Words.{print, sim, make, drill, usage_line, IsNoCommand}
+use Rattle.kompics.specs.Runs.{IsRecordOf, status_of, IsRan}
 
--- the words of the command `sim`, with the names of its two files
-abbrev pub sim : List ℕ → List ℕ → List (List ℕ)
-sim s z = codes "sim" ∷ s ∷ z ∷ []
+-- the bytes of each name, where a shelf tells them
+abbrev pub Files : Type 0
+Files = List ℕ → Option (List ℕ)
 
--- the words of a command that writes a generated text
-abbrev pub make : ℕ → List ℕ → List (List ℕ)
-make n what = codes "make" ∷ decimal n ∷ what ∷ []
+-- this holds of a text, where it is told
+abbrev pub Told : Option (List ℕ) → (List ℕ → Type 0) → Type 0
+Told file P = (text : List ℕ) → file ≡ Some text → P text
 
-abbrev pub usage_line : List ℕ
-usage_line = codes "usage: kompics check S | sim S Z | make N system|scenario | upgrade S" ++ newline
+-- the text of a system in a form
+abbrev pub text_in : Form → Contents → List ℕ
+text_in AsItIs system = canonical_text system
+text_in Upgraded system = canonical_text (upgraded system)
 
-abbrev pub system_refusal : List ℕ
-system_refusal = codes "refused system rule 0 at 1:1" ++ newline
+module _ (words : List (List ℕ)) (files : Files) where
+  -- a file with a fault: that of the system, or, the system being accepted, that of the scenario
+  pub data Stops (before after : List ℕ → ℕ) : Type 0 where
+    at_printed : (form : Form) (s : List ℕ) → words ≡ print form s → Rose (before s) (after s) → Stops before after
+    at_system : (s z : List ℕ) → words ≡ sim s z → Rose (before s) (after s) → Stops before after
+    at_scenario : (s z : List ℕ) (S : Contents) → words ≡ sim s z → Told (files s) (λ text. Stands text S) → Rose (before z) (after z) → Stops before after
 
-abbrev pub scenario_refusal : List ℕ
-scenario_refusal = codes "refused scenario rule 0 at 1:1" ++ newline
+-- `system` and `scenario` are the templates of the generated texts
+module _ (system scenario : List ℕ) (words : List (List ℕ)) (files : Files) where
+  -- the words ask for a run of a system and a scenario with these texts, of which the two last lines
+  -- of the trace are written where `brief`
+  pub data AsksRun : (brief : Bool) (st zt : Option (List ℕ)) → Type 0 where
+    of_files : (s z : List ℕ) → words ≡ sim s z → AsksRun false (files s) (files z)
+    of_number : (n : ℕ) → 1 ≤ n → n ≤ 30 → words ≡ drill n → AsksRun true (Some (system_text system n)) (Some (scenario_text scenario n))
 
--- the words are no command
-abbrev pub IsNoCommand : List (List ℕ) → Type 0
-IsNoCommand words =
-    ((form : Form) (s : List ℕ) → words ≢ print form s)
-    × ((s z : List ℕ) → words ≢ sim s z)
-    × ((n : ℕ) → 1 ≤ n → n ≤ 30 → words ≢ make n (codes "system"))
-    × ((n : ℕ) → 1 ≤ n → n ≤ 30 → words ≢ make n (codes "scenario"))
+  -- the words are of a command that reads a system with this text
+  pub data AsksSystem : Option (List ℕ) → Type 0 where
+    to_print : (form : Form) (s : List ℕ) → words ≡ print form s → AsksSystem (files s)
+    to_run : (brief : Bool) (st zt : Option (List ℕ)) → AsksRun brief st zt → AsksSystem st
 
--- the words are those of the command
-abbrev pub IsCommand : Command → List (List ℕ) → Type 0
-IsCommand (command.Print form s) words = words ≡ print form s.now
-IsCommand (command.Sim s z) words = words ≡ sim s.now z.now
-IsCommand (command.MakeSystem n) words = (1 ≤ n) × (n ≤ 30) × (words ≡ make n (codes "system"))
-IsCommand (command.MakeScenario n) words = (1 ≤ n) × (n ≤ 30) × (words ≡ make n (codes "scenario"))
+  -- how a call ends that meets no fault and no want of memory: the record that it keeps, its status,
+  -- and what it writes
+  pub data Ends : Option Kept → (status : ℕ) → (output : List ℕ) → Type 0 where
+    no_command : IsNoCommand words → Ends None 2 usage_line
+    made_system : (n : ℕ) → 1 ≤ n → n ≤ 30 → words ≡ make n (codes "system") → Ends None 0 (system_text system n)
+    made_scenario : (n : ℕ) → 1 ≤ n → n ≤ 30 → words ≡ make n (codes "scenario") → Ends None 0 (scenario_text scenario n)
+    printed : (form : Form) (s : List ℕ) (S : Contents)
+        → words ≡ print form s → Told (files s) (λ text. Stands text S)
+        → Ends None 0 (text_in form S)
+    system_refused : (st : Option (List ℕ)) (rule line column : ℕ)
+        → AsksSystem st → Told st (λ text. IsRefused text rule line column)
+        → Ends None 1 (refusal_line (codes "system") rule line column)
+    scenario_refused : (brief : Bool) (st zt : Option (List ℕ)) (S : Contents) (rule line column : ℕ)
+        → AsksRun brief st zt → Told st (λ text. Stands text S) → Told zt (λ text. IsRefusedFor S text rule line column)
+        → Ends None 1 (refusal_line (codes "scenario") rule line column)
+    ran : (brief : Bool) (st zt : Option (List ℕ)) (S : Contents) (Z : Plan) (kept : Kept)
+        → AsksRun brief st zt → Told st (λ text. Stands text S) → Told zt (λ text. IsPlanOf S text Z)
+        → IsRecordOf S.declarations Z kept.history
+        → Ends (Some kept) (status_of S.declarations Z kept.history) (written_of brief S.event_names S.declarations Z kept.history)
 
--- where the file is told, it is that of a small system
-abbrev pub IsAccepted : Files → List ℕ → Type 0
-IsAccepted files s = (st : List ℕ) → files s ≡ Some st → (S : System) × IsSystem st S
-
--- where the two files are told, they are those of a small system and of a small scenario of it, the
--- record is that of their simulation, and the output is its text
-abbrev pub IsRun : Files → List ℕ → List ℕ → History → List ℕ → Type 0
-IsRun files s z R output =
-    (st zt : List ℕ) → files s ≡ Some st → files z ≡ Some zt →
-    (S : System) × ((Z : Plan) × IsSystem st S × IsScenario zt S Z × IsSimulation S Z R × (output ≡ trace_text S Z R))
-
--- where the file is told, it is not that of a small system
-abbrev pub IsNoSystem : Files → List ℕ → Type 0
-IsNoSystem files s = (st : List ℕ) → files s ≡ Some st → (S : System) → IsSystem st S → ⊥
-
--- the system is accepted; where the files are told, the second is not that of a small scenario of it
-abbrev pub IsNoScenario : Files → List ℕ → List ℕ → Type 0
-IsNoScenario files s z =
-    IsAccepted files s × ((st zt : List ℕ) → files s ≡ Some st → files z ≡ Some zt → (S : System) × IsSystem st S × ((Z : Plan) → IsScenario zt S Z → ⊥))
-
--- a fault of the first file came, or, that being accepted, of the second
-abbrev pub IsShelfFault : Files → List ℕ → List ℕ → (List ℕ → ℕ) → (List ℕ → ℕ) → Type 0
-IsShelfFault files s z before after = Rose (before s) (after s) ⊎ (IsAccepted files s × Rose (before z) (after z))
-
--- the output of a run that was kept
-pub record IsTraced (words : List (List ℕ)) (files : Files) (kept : Option History) (output : List ℕ) : Type 0 where
-  pub s : List ℕ
-  pub z : List ℕ
-  pub R : History
-  pub words_are : words ≡ sim s z
-  pub kept_is : kept ≡ Some R
-  pub run : IsRun files s z R output
-
--- the output where a file is refused
-pub record IsRefused (words : List (List ℕ)) (files : Files) (kept : Option History) (output : List ℕ) : Type 0 where
-  pub s : List ℕ
-  pub z : List ℕ
-  pub words_are : words ≡ sim s z
-  pub kept_is : kept ≡ None
-  pub file : (IsNoSystem files s × (output ≡ system_refusal)) ⊎ (IsNoScenario files s z × (output ≡ scenario_refusal))
-
--- the output of a generated text, of these templates
-pub record IsMade (system scenario : List ℕ) (words : List (List ℕ)) (kept : Option History) (output : List ℕ) : Type 0 where
-  pub n : ℕ
-  pub some : 1 ≤ n
-  pub most : n ≤ 30
-  pub kept_is : kept ≡ None
-  pub text : ((words ≡ make n (codes "system")) × (output ≡ system_text system n)) ⊎ ((words ≡ make n (codes "scenario")) × (output ≡ scenario_text scenario n))
-
--- the output where the words are no command
-pub record IsUsage (words : List (List ℕ)) (kept : Option History) (output : List ℕ) : Type 0 where
-  pub no_command : IsNoCommand words
-  pub kept_is : kept ≡ None
-  pub line : output ≡ usage_line
-
--- the output of a command that was done
-abbrev pub IsDone : (system scenario : List ℕ) → List (List ℕ) → Files → Option History → List ℕ → Type 0
-IsDone system scenario words files kept output = IsTraced words files kept output ⊎ (IsMade system scenario words kept output ⊎ IsPrinted words files kept output)
-
--- the output of a refusal
-abbrev pub IsRefusal : List (List ℕ) → Files → Option History → List ℕ → Type 0
-IsRefusal words files kept output = IsRefused words files kept output ⊎ IsRefusedFile words files kept output
-
--- the output of a call, which may be lost on its way
-abbrev pub IsOutput : (system scenario : List ℕ) → List (List ℕ) → Files → Option History → List ℕ → Type 0
-IsOutput system scenario words files kept output =
-    IsDone system scenario words files kept output ⊎ (IsRefusal words files kept output ⊎ IsUsage words kept output)
+  -- what is known of a call before anything is written
+  abbrev pub IsAnswer : Answer → (before after : List ℕ → ℕ) → Type 0
+  IsAnswer answer.NoCommand before after = Ends None 2 usage_line
+  IsAnswer (answer.Text text) before after = Ends None 0 text.items
+  IsAnswer (answer.Refused line) before after = Ends None 1 (string_bytes line)
+  IsAnswer (answer.Run run) before after = IsRan (arc_value run.system).declarations run.plan run.ran
+      × Ends (Some run.ran.kept) run.ran.status (written_of run.brief (arc_value run.system).event_names (arc_value run.system).declarations run.plan run.ran.kept.history)
+  IsAnswer answer.ShelfFault before after = Stops words files before after
+  IsAnswer answer.Memory before after = Unit {0}
 
 -- this was written
 abbrev pub Adds : List ℕ → Option (List ℕ) → Option (List ℕ) → Type 0
 Adds output before after = after ≡ option_map (λ written. written ++ output) before
 
--- what stands after a fault of the shelf
-pub record IsStopped (words : List (List ℕ)) (files : Files) (before after : List ℕ → ℕ) : Type 0 where
-  pub s : List ℕ
-  pub z : List ℕ
-  pub words_are : words ≡ sim s z
-  pub fault : IsShelfFault files s z before after
-
-abbrev pub IsFault : List (List ℕ) → Files → (List ℕ → ℕ) → (List ℕ → ℕ) → Type 0
-IsFault words files before after = IsStopped words files before after ⊎ IsStoppedFile words before after
-
--- what an answer that was found says, before it is written
-abbrev pub IsAnswer : (system scenario : List ℕ) → Answer → List (List ℕ) → Files → (List ℕ → ℕ) → (List ℕ → ℕ) → Type 0
-IsAnswer system scenario answer.NoCommand words files before after = IsUsage words None usage_line
-IsAnswer system scenario answer.NoSystem words files before after = IsRefused words files None system_refusal
-IsAnswer system scenario answer.NoScenario words files before after = IsRefused words files None scenario_refusal
-IsAnswer system scenario (answer.Trace text kept) words files before after = IsTraced words files (Some kept) text
-IsAnswer system scenario (answer.Made text) words files before after = IsMade system scenario words None text.items
-IsAnswer system scenario (answer.Printed text) words files before after = IsPrinted words files None text.items
-IsAnswer system scenario (answer.Refused line) words files before after = IsRefusedFile words files None (string_bytes line)
-IsAnswer system scenario answer.ShelfFault words files before after = IsFault words files before after
-IsAnswer system scenario answer.Memory words files before after = Unit {0}
-
--- the answer of a system that was read, in a form
-abbrev pub IsWritten : Answer → Form → Contents → Type 0
-IsWritten answer.NoCommand form system = ⊥
-IsWritten answer.NoSystem form system = ⊥
-IsWritten answer.NoScenario form system = ⊥
-IsWritten (answer.Trace text kept) form system = ⊥
-IsWritten (answer.Made text) form system = ⊥
-IsWritten (answer.Printed text) form system = text.items ≡ text_in form system
-IsWritten (answer.Refused line) form system = ⊥
-IsWritten answer.ShelfFault form system = ⊥
-IsWritten answer.Memory form system = Unit {0}
-
--- a line was said with this status, or the sink failed and a prefix of it was written
-abbrev pub IsSaid : ℕ → ℕ → List ℕ → Option (List ℕ) → Option (List ℕ) → ℕ → ℕ → Type 0
-IsSaid status wanted line before after faults_before faults_after =
-    ((status ≡ wanted) × Adds line before after) ⊎ ((status ≡ 6) × Rose faults_before faults_after × AddsPrefix line before after)
-
--- the answer of a simulation, of this system and this plan
-abbrev pub IsSimulated : Answer → System → Plan → Type 0
-IsSimulated answer.NoCommand S Z = ⊥
-IsSimulated answer.NoSystem S Z = ⊥
-IsSimulated answer.NoScenario S Z = ⊥
-IsSimulated (answer.Trace text kept) S Z = IsSimulation S Z kept × (text ≡ trace_text S Z kept)
-IsSimulated (answer.Made text) S Z = ⊥
-IsSimulated (answer.Printed text) S Z = ⊥
-IsSimulated (answer.Refused line) S Z = ⊥
-IsSimulated answer.ShelfFault S Z = ⊥
-IsSimulated answer.Memory S Z = Unit {0}
-
--- the answer of the second file, for this system
-abbrev pub IsSecond : Answer → Option (List ℕ) → System → ℕ → ℕ → Type 0
-IsSecond answer.NoCommand file S before after = ⊥
-IsSecond answer.NoSystem file S before after = ⊥
-IsSecond answer.NoScenario file S before after = (zt : List ℕ) → file ≡ Some zt → (Z : Plan) → IsScenario zt S Z → ⊥
-IsSecond (answer.Trace text kept) file S before after = (zt : List ℕ) → file ≡ Some zt → (Z : Plan) × IsScenario zt S Z × IsSimulation S Z kept × (text ≡ trace_text S Z kept)
-IsSecond (answer.Made text) file S before after = ⊥
-IsSecond (answer.Printed text) file S before after = ⊥
-IsSecond (answer.Refused line) file S before after = ⊥
-IsSecond answer.ShelfFault file S before after = Rose before after
-IsSecond answer.Memory file S before after = Unit {0}
+-- this was written, all of it or a prefix, where the call that should end with the status `wanted`
+-- ended with the status `status`
+abbrev pub IsWritten : (status wanted : ℕ) (output : List ℕ) (before after : Option (List ℕ)) (faults_before faults_after : ℕ) → Type 0
+IsWritten status wanted output before after faults_before faults_after =
+    ((status ≡ wanted) × Adds output before after)
+    ⊎ (((status ≡ 6) × Rose faults_before faults_after × AddsPrefix output before after)
+    ⊎ ((status ≡ 7) × AddsPrefix output before after))

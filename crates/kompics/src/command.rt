@@ -1,5 +1,5 @@
 ghost use Rattle.std.specs.Prelude.{◌≡◌, ◌≢◌, ◌≤◌, ◌↔◌, ℕ, [], ◌∷◌, codes, decimal, IsTrue, MatchOption};
-ghost use Rattle.kompics.specs.Top.{IsNoCommand, IsCommand, make};
+ghost use Rattle.kompics.specs.Words.{IsNoCommand, IsCommand};
 
 use itoa::Buffer;
 use kom_io::Words;
@@ -24,6 +24,8 @@ pub enum Command<'w> {
     MakeSystem(u32),
     /// Writes the generated scenario of a number from 1 to 30.
     MakeScenario(u32),
+    /// Simulates the generated system and scenario of a number from 1 to 30.
+    Drill(u32),
 }
 
 fn is_number(word: &str, n: u32) -> bool
@@ -60,29 +62,41 @@ fn making<'w>(number: &'w str, what: &'w str) -> Option<Command<'w>>
     None
 }
 
+/// The command of words that begin with `drill`.
+#[tactic(auto, using(crate::proofs::Words::no_drill))]
+fn drilling<'w>(number: &'w str) -> Option<Command<'w>>
+    ensures { MatchOption result (IsNoCommand (codes "drill" ∷ number.now ∷ [])) (λ c. IsCommand c (codes "drill" ∷ number.now ∷ [])) }
+{
+    let n = number_of(number)?;
+    Some(Command::Drill(n))
+}
+
 /// The command of two words.
 #[tactic(auto, using(crate::proofs::Words::no_pair))]
-fn printing<'w>(first: &'w str, system: &'w str) -> Option<Command<'w>>
-    ensures { MatchOption result (IsNoCommand (first.now ∷ system.now ∷ [])) (λ c. IsCommand c (first.now ∷ system.now ∷ [])) }
+fn of_two<'w>(first: &'w str, second: &'w str) -> Option<Command<'w>>
+    ensures { MatchOption result (IsNoCommand (first.now ∷ second.now ∷ [])) (λ c. IsCommand c (first.now ∷ second.now ∷ [])) }
 {
     if first == "check" {
         return Some(Command::Print {
             form: Form::AsItIs,
-            system,
+            system: second,
         });
     }
     if first == "upgrade" {
         return Some(Command::Print {
             form: Form::Upgraded,
-            system,
+            system: second,
         });
+    }
+    if first == "drill" {
+        return drilling(second);
     }
     None
 }
 
 /// The command of three words.
 #[tactic(auto, using(crate::proofs::Words::no_command))]
-fn parsed<'w>(first: &'w str, second: &'w str, third: &'w str) -> Option<Command<'w>>
+fn of_three<'w>(first: &'w str, second: &'w str, third: &'w str) -> Option<Command<'w>>
     ensures { MatchOption result (IsNoCommand (first.now ∷ second.now ∷ third.now ∷ [])) (λ c. IsCommand c (first.now ∷ second.now ∷ third.now ∷ [])) }
 {
     if first == "sim" {
@@ -104,7 +118,7 @@ pub fn command_of(words: &Words) -> Option<Command<'_>>
 {
     if words.len() == 2 {
         return match (words.at(0), words.at(1)) {
-            (Some(first), Some(second)) => printing(first, second),
+            (Some(first), Some(second)) => of_two(first, second),
             _ => None,
         };
     }
@@ -112,7 +126,7 @@ pub fn command_of(words: &Words) -> Option<Command<'_>>
         return None;
     }
     match (words.at(0), words.at(1), words.at(2)) {
-        (Some(first), Some(second), Some(third)) => parsed(first, second, third),
+        (Some(first), Some(second), Some(third)) => of_three(first, second, third),
         _ => None,
     }
 }

@@ -1,8 +1,9 @@
 //! The program: it reads systems and scenarios, runs them and writes their traces.
 #![tactic(auto)]
 
+mod answer;
 mod command;
-mod small;
+mod running;
 #[cfg(test)]
 mod tests;
 mod top;

@@ -1,0 +1,42 @@
+-- The words of the commands.
+use Rattle.std.specs.Prelude.{◌≡◌, ◌≢◌, ◌≤◌, ◌++◌, ℕ, List, [], ◌∷◌, codes, decimal}
+use Rattle.kompics.specs.declared.command.Form.{Form}
+use Rattle.kompics.specs.declared.command.Form.TheVariants.{AsItIs, Upgraded}
+use Rattle.kompics.specs.declared.command.Command.{Command}
+use Rattle.kompics.specs.declared.command.Command.TheVariants as command
+
+-- of the command that writes the system of a file in a form
+abbrev pub print : Form → List ℕ → List (List ℕ)
+print AsItIs s = codes "check" ∷ s ∷ []
+print Upgraded s = codes "upgrade" ∷ s ∷ []
+
+-- of the command that simulates the system of one file under the scenario of another
+abbrev pub sim : List ℕ → List ℕ → List (List ℕ)
+sim s z = codes "sim" ∷ s ∷ z ∷ []
+
+-- of a command that writes a generated text of a number
+abbrev pub make : ℕ → List ℕ → List (List ℕ)
+make n what = codes "make" ∷ decimal n ∷ what ∷ []
+
+-- of the command that simulates the generated texts of a number
+abbrev pub drill : ℕ → List (List ℕ)
+drill n = codes "drill" ∷ decimal n ∷ []
+
+abbrev pub usage_line : List ℕ
+usage_line = codes "usage: kompics check S | sim S Z | make N system|scenario | drill N | upgrade S" ++ 10 ∷ []
+
+-- the words are no command
+pub record IsNoCommand (words : List (List ℕ)) : Type 0 where
+  pub no_print : (form : Form) (s : List ℕ) → words ≢ print form s
+  pub no_sim : (s z : List ℕ) → words ≢ sim s z
+  pub no_system : (n : ℕ) → 1 ≤ n → n ≤ 30 → words ≢ make n (codes "system")
+  pub no_scenario : (n : ℕ) → 1 ≤ n → n ≤ 30 → words ≢ make n (codes "scenario")
+  pub no_drill : (n : ℕ) → 1 ≤ n → n ≤ 30 → words ≢ drill n
+
+-- the words are those of the command
+abbrev pub IsCommand : Command → List (List ℕ) → Type 0
+IsCommand (command.Print form s) words = words ≡ print form s.now
+IsCommand (command.Sim s z) words = words ≡ sim s.now z.now
+IsCommand (command.MakeSystem n) words = (1 ≤ n) × (n ≤ 30) × (words ≡ make n (codes "system"))
+IsCommand (command.MakeScenario n) words = (1 ≤ n) × (n ≤ 30) × (words ≡ make n (codes "scenario"))
+IsCommand (command.Drill n) words = (1 ≤ n) × (n ≤ 30) × (words ≡ drill n)

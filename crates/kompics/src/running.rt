@@ -1,0 +1,132 @@
+ghost use Rattle.std.specs.Prelude.{◌≡◌, ◌+◌, ℕ, [], if◌then◌else◌, IfOk};
+ghost use Rattle.std.specs.Arc.{arc_value};
+ghost use Rattle.kom_lang.specs.Declarations.{Declarations};
+ghost use Rattle.kom_system.specs.WellFormed.{IsDeclared};
+ghost use Rattle.kom_record.specs.declared.plan.Plan.{Plan};
+ghost use Rattle.kom_record.specs.Entries.{History};
+ghost use Rattle.kom_record.specs.Legal.{IsLegal};
+ghost use Rattle.kom_record.specs.Plans.{PlanFits};
+ghost use Rattle.kom_record.specs.Ready.{ready_list};
+ghost use Rattle.kom_record.specs.Simulated.{IsSimulated};
+ghost use Rattle.kompics.specs.Promises.{Promises};
+ghost use Rattle.kompics.specs.Runs.{IsRan};
+
+use kom_base::Copied;
+use kom_core::{Begun, Core};
+use kom_record::{Plan, Record, Station, Tally, Wakes};
+use kom_sim::{Simulated, simulate};
+use kom_system::System;
+use kom_trace::count_all;
+use std::alloc::{AllocError, Global};
+use std::sync::Arc;
+
+/// What is kept of a run that came to its end.
+#[derive(Drop)]
+pub struct Ran {
+    /// The record of the simulation.
+    pub kept: Record,
+    /// What the record leaves.
+    pub tally: Tally,
+    /// 3 where nobody was told of a fault, else 4 where the run was cut off by its plan with something
+    /// left to do, else 0.
+    pub status: u8,
+}
+
+/// A run that came to its end, with what its text is made by.
+#[derive(Drop)]
+pub struct Run {
+    pub system: Arc<System, Global>,
+    pub plan: Plan,
+    /// Whether only the two last lines of the trace are asked for.
+    pub brief: bool,
+    pub ran: Ran,
+}
+
+/// Simulates a system under a plan that fits it. The error is want of memory.
+pub fn run_system(alloc: Global, system: System, plan: Plan, brief: bool) -> Result<Run, AllocError>
+    requires { PlanFits system.declarations plan }
+    ensures system { IfOk result (λ run. arc_value run.system ≡ system) }
+    ensures plan { IfOk result (λ run. run.plan ≡ plan) }
+    ensures brief { IfOk result (λ run. run.brief ≡ brief) }
+    ensures ran { IfOk result (λ run. IsRan system.declarations plan run.ran) }
+{
+    let system = Arc::new(alloc, system)?;
+    let ran = begin(alloc, Arc::try_clone(&system)?, plan.copy(alloc)?)?;
+    Ok(Run {
+        system,
+        plan,
+        brief,
+        ran,
+    })
+}
+
+/// Begins a run, and simulates it.
+fn begin(alloc: Global, system: Arc<System, Global>, plan: Plan) -> Result<Ran, AllocError>
+    requires { PlanFits (arc_value system).declarations plan }
+    ensures { IfOk result (λ ran. IsRan (arc_value system).declarations plan ran) }
+{
+    system.well_formed();
+    let Begun { core, wakes } = Core::begin(alloc, system, plan)?;
+    simulate_all(alloc, core, wakes)
+}
+
+/// Simulates the system of a station that stands for the empty record.
+fn simulate_all<T: Station>(alloc: Global, station: T, wakes: Wakes) -> Result<Ran, AllocError>
+    requires declared { IsDeclared (T.system station).declarations }
+    requires empty { T.history station ≡ [] }
+    requires ready { wakes ≡ ready_list (T.system station).declarations (T.plan station) [] }
+    ensures { IfOk result (λ ran. IsRan (T.system station).declarations (T.plan station) ran) }
+{
+    match simulate(alloc, station, wakes) {
+        Simulated::Ended(station) => ended(alloc, station),
+        Simulated::Memory(station) => {
+            station.into_kept();
+            Err(AllocError)
+        }
+    }
+}
+
+/// What is kept of a station that stands for the record of the simulation.
+fn ended<T: Station>(alloc: Global, station: T) -> Result<Ran, AllocError>
+    requires declared { IsDeclared (T.system station).declarations }
+    requires simulated { ∥ IsSimulated (T.system station).declarations (T.plan station) (T.history station) ∥₁ }
+    ensures { IfOk result (λ ran. IsRan (T.system station).declarations (T.plan station) ran) }
+{
+    records_promise();
+    let tally = station.tally();
+    let kept = station.into_kept();
+    let counts = count_all(alloc, &kept)?;
+    let status = status_of(counts.has_unhandled(), tally.more);
+    Ok(Ran {
+        kept,
+        tally,
+        status,
+    })
+}
+
+/// The status of a run that came to its end.
+fn status_of(unhandled: bool, more: bool) -> u8
+    ensures { result ≡ (if unhandled then 3 else (if more then 4 else 0)) }
+{
+    if unhandled {
+        3
+    } else if more {
+        4
+    } else {
+        0
+    }
+}
+
+/// Each legal record of a well-formed system is as it is promised of runs.
+fn records_promise()
+    ensures { (S : Declarations) (Z : Plan) (R : History) → IsDeclared S → IsLegal S Z R → Promises S R }
+{
+    kom_laws::handlings_alternate();
+    kom_laws::outcomes_are_reactions();
+    kom_laws::each_in_order();
+    kom_laws::numbers_rise();
+    kom_laws::dead_channels_rest();
+    kom_laws::faults_reach_the_nearest();
+    kom_laws::states_are_handed_over();
+    kom_laws::receipts_are_handed_over();
+}
