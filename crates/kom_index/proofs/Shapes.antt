@@ -1,5 +1,7 @@
 -- What is known of a tree's entries once its node is a fork, or none.
 use Rattle.std.proofs.Common.{◌≡◌, ◌<◌, List, ◌∷◌, ◌++◌, length, Ordering, sym, ap, ◌∙◌, subst, arith, length-append}
+use Rattle.kom_index.specs.declared.tree.Node.{Node}
+use Rattle.kom_index.specs.declared.tree.Node.TheVariants.{Leaf, Fork}
 use Rattle.kom_index.specs.Entries.{Rises}
 
 pub record AtFork {K V : Type 0} (R : K → K → Ordering) (d l : List (K × V)) (k : K) (v : V) (r : List (K × V)) : Type 0 where
@@ -15,3 +17,8 @@ at_fork R d l k v r whole e h is = record {
   left_shorter = omega (arith, ap length e, ap length is, length-append l ((k, v) ∷ r));
   right_shorter = omega (arith, ap length e, ap length is, length-append l ((k, v) ∷ r));
 }
+
+-- the key of a fork
+abbrev pub key_or : {K V : Type 0} → K → Node K V → K
+key_or d Leaf = d
+key_or d (Fork l k v h r) = k

@@ -61,7 +61,7 @@ impl<K: Ord, V> Tree<K, V> {
     }
 
     /// One more than the greater height of its sides; 0 with no entry.
-    pub fn height(&self) -> u8 {
+    fn height(&self) -> u8 {
         match &self.node {
             Node::Leaf => 0,
             Node::Fork(_, _, _, h, _) => *h,
@@ -179,24 +179,63 @@ impl<K: Ord + Copy, V> Tree<K, V> {
 }
 
 impl<K: Ord + Drop, V: Drop> Tree<K, V> {
+    /// Notes the height of the node, and turns it where one side is two levels higher than the other.
+    fn balance(&mut self)
+        ensures same { self.new ≡ self.old }
+    {
+        let (left, right) = self.side_heights();
+        if left.abs_diff(right) <= 1 {
+            self.set_height(left.max(right).saturating_add(1));
+        } else {
+            self.turn();
+        }
+    }
+
+    /// The heights of both sides; 0 with no entry.
+    fn side_heights(&self) -> (u8, u8) {
+        match &self.node {
+            Node::Leaf => (0, 0),
+            Node::Fork(l, _, _, _, r) => (l.height(), r.height()),
+        }
+    }
+
+    /// Notes another height.
+    fn set_height(&mut self, height: u8)
+        ensures same { self.new ≡ self.old }
+    {
+        if let Node::Fork(_, _, _, noted, _) = &mut self.node {
+            *noted = height;
+        }
+    }
+
+    /// Turns the node where one side is two levels higher than the other.
+    fn turn(&mut self)
+        ensures same { self.new ≡ self.old }
+    {
+        match mem::replace(&mut self.node, Node::Leaf) {
+            Node::Leaf => {}
+            Node::Fork(l, k, v, _, r) => self.node = settle(l, k, v, r),
+        }
+    }
+
     /// Adds an entry whose key is not there, in the memory of two empty sides.
     pub fn insert(&mut self, key: K, value: V, left: Box<Tree<K, V>>, right: Box<Tree<K, V>>)
         requires { value_of K.cmp key self.old ≡ None }
         ensures new { self.new ≡ inserted K.cmp key value self.old }
         ensures rises { Rises K.cmp self.old }
     {
-        self.node = match mem::replace(&mut self.node, Node::Leaf) {
-            Node::Leaf => fork(emptied(left), key, value, emptied(right)),
-            Node::Fork(mut l, k, v, _, mut r) => {
-                if key.cmp(&k).is_lt() {
+        match &mut self.node {
+            Node::Leaf => self.node = fork(emptied(left), key, value, emptied(right)),
+            Node::Fork(l, k, _, _, r) => {
+                if key.cmp(k).is_lt() {
                     l.insert(key, value, left, right);
-                    settle(l, k, v, r)
+                    self.balance();
                 } else {
                     r.insert(key, value, left, right);
-                    settle(l, k, v, r)
+                    self.balance();
                 }
             }
-        };
+        }
     }
 
     /// Takes the first entry out, if there is one.
@@ -204,21 +243,24 @@ impl<K: Ord + Drop, V: Drop> Tree<K, V> {
         ensures none { IfNone result ((self.old ≡ []) × (self.new ≡ [])) }
         ensures some { IfSome result (λ f. self.old ≡ (f.key, f.value) ∷ self.new) }
     {
-        match mem::replace(&mut self.node, Node::Leaf) {
+        match &mut self.node {
             Node::Leaf => None,
-            Node::Fork(mut l, k, v, _, r) => match l.pop_first() {
-                None => {
-                    let (node, right) = emptied_node(r);
-                    self.node = node;
-                    Some(Freed {
-                        key: k,
-                        value: v,
-                        left: l,
-                        right,
-                    })
-                }
+            Node::Fork(l, _, _, _, _) => match l.pop_first() {
+                None => match mem::replace(&mut self.node, Node::Leaf) {
+                    Node::Leaf => None,
+                    Node::Fork(l, key, value, _, r) => {
+                        let (node, right) = emptied_node(r);
+                        self.node = node;
+                        Some(Freed {
+                            key,
+                            value,
+                            left: l,
+                            right,
+                        })
+                    }
+                },
                 Some(first) => {
-                    self.node = settle(l, k, v, r);
+                    self.balance();
                     Some(first)
                 }
             },
@@ -232,29 +274,32 @@ impl<K: Ord + Drop, V: Drop> Tree<K, V> {
         ensures rest { self.new ≡ without K.cmp key.now self.old }
         ensures rises { Rises K.cmp self.old }
     {
-        match mem::replace(&mut self.node, Node::Leaf) {
+        match &mut self.node {
             Node::Leaf => unreachable!(),
-            Node::Fork(mut l, k, v, _, mut r) => match key.cmp(&k) {
+            Node::Fork(l, k, _, _, r) => match key.cmp(k) {
                 Ordering::Less => {
                     let freed = l.remove(key);
-                    self.node = settle(l, k, v, r);
+                    self.balance();
                     freed
                 }
                 Ordering::Greater => {
                     let freed = r.remove(key);
-                    self.node = settle(l, k, v, r);
+                    self.balance();
                     freed
                 }
-                Ordering::Equal => {
-                    let (node, left, right) = joined(l, r);
-                    self.node = node;
-                    Freed {
-                        key: k,
-                        value: v,
-                        left,
-                        right,
+                Ordering::Equal => match mem::replace(&mut self.node, Node::Leaf) {
+                    Node::Leaf => unreachable!(),
+                    Node::Fork(l, k, v, _, r) => {
+                        let (node, left, right) = joined(l, r);
+                        self.node = node;
+                        Freed {
+                            key: k,
+                            value: v,
+                            left,
+                            right,
+                        }
                     }
-                }
+                },
             },
         }
     }

@@ -1,14 +1,15 @@
 use Rattle.std.proofs.Common.{◌≡◌, ◌<◌, [], sym, ap, ◌∙◌, subst, arith, length, rules}
 use Rattle.std.specs.Option.{IsSome, is_some}
+use Rattle.std.specs.declared.cmp.Ordering.TheVariants.{Equal}
 use Rattle.kom_index.specs.Entries.{value_of}
 use Rattle.kom_index.specs.Shape.{entries_of}
 use Rattle.kom_index.proofs.Order.{value_left, value_right, value_middle, remove_less, remove_more, remove_tied}
-use Rattle.kom_index.proofs.Shapes.{at_fork}
+use Rattle.kom_index.proofs.Shapes.{at_fork, key_or}
 use Rattle.kom_index.proofs.tree.Tree.+remove.Goals as goal
 
 pub unreachable-requires : goal.unreachable-requires
 unreachable-requires g t c =
-    let empty : c.args.self.now ≡ [] = sym c.self.view_is ∙ ap entries_of (sym c.replace.ensures.value ∙ c.in-Leaf.is) in
+    let empty : c.args.self.now ≡ [] = sym c.self.view_is ∙ ap entries_of c.in-Leaf.is in
     absurd (cc (c.requires, ap (λ d. is_some (value_of g.K.Ord.cmp c.args.key.now d)) empty))
 
 pub unreachable-unreachable : goal.unreachable-unreachable
@@ -16,85 +17,82 @@ unreachable-unreachable g t c = c.unreachable.type_inv
 
 pub remove-freed-requires : goal.remove-freed-requires
 remove-freed-requires g t c =
-    let f = at_fork g.K.Ord.cmp c.args.self.now c.in-Fork.l.value c.in-Fork.k c.in-Fork.v c.in-Fork.r.value _ c.self.view_is c.self.invariant (ap entries_of (sym c.replace.ensures.value ∙ c.in-Fork.is)) in
+    let f = at_fork g.K.Ord.cmp c.args.self.now c.in-Fork.l.value c.in-Fork.k c.in-Fork.field-2 c.in-Fork.r.value _ c.self.view_is c.self.invariant (ap entries_of c.in-Fork.is) in
     let short : length c.deref_mut.result.now < t = omega (arith, ap length c.deref_mut.ensures.value, f.left_shorter, c.decreases) in
     let here : IsSome (value_of g.K.Ord.cmp c.args.key.now c.deref_mut.result.now) =
-    subst IsSome (ap (value_of g.K.Ord.cmp c.args.key.now) f.is ∙ value_left g.K.Ord.cmp g.met.K.Ord.total c.args.key.now c.in-Fork.l.value (c.in-Fork.k, c.in-Fork.v) c.in-Fork.r.value f.rises (sym c.in-Less.ensures) ∙ ap (value_of g.K.Ord.cmp c.args.key.now) (sym c.deref_mut.ensures.value)) c.requires in
+    subst IsSome (ap (value_of g.K.Ord.cmp c.args.key.now) f.is ∙ value_left g.K.Ord.cmp g.met.K.Ord.total c.args.key.now c.in-Fork.l.value (c.in-Fork.k, c.in-Fork.field-2) c.in-Fork.r.value f.rises (sym c.in-Less.ensures) ∙ ap (value_of g.K.Ord.cmp c.args.key.now) (sym c.deref_mut.ensures.value)) c.requires in
     search rules
-
-pub settle-requires : goal.settle-requires
-settle-requires g t c =
-    let f = at_fork g.K.Ord.cmp c.args.self.now c.in-Fork.l.value c.in-Fork.k c.in-Fork.v c.in-Fork.r.value _ c.self.view_is c.self.invariant (ap entries_of (sym c.replace.ensures.value ∙ c.in-Fork.is)) in
-    let change = remove_less g.K.Ord.cmp g.met.K.Ord.total c.args.key.now c.in-Fork.l.value (c.in-Fork.k, c.in-Fork.v) c.in-Fork.r.value f.rises (sym c.in-Less.ensures) in
-    rw (c.remove-freed.ensures.rest, c.deref_mut.ensures.value) change.rises
 
 pub invariant_of-self : goal.invariant_of-self
 invariant_of-self g t c =
-    let f = at_fork g.K.Ord.cmp c.args.self.now c.in-Fork.l.value c.in-Fork.k c.in-Fork.v c.in-Fork.r.value _ c.self.view_is c.self.invariant (ap entries_of (sym c.replace.ensures.value ∙ c.in-Fork.is)) in
-    let change = remove_less g.K.Ord.cmp g.met.K.Ord.total c.args.key.now c.in-Fork.l.value (c.in-Fork.k, c.in-Fork.v) c.in-Fork.r.value f.rises (sym c.in-Less.ensures) in
-    rw (c.settle.ensures, c.remove-freed.ensures.rest, c.deref_mut.ensures.value) change.rises
+    let f = at_fork g.K.Ord.cmp c.args.self.now c.in-Fork.l.value c.in-Fork.k c.in-Fork.field-2 c.in-Fork.r.value _ c.self.view_is c.self.invariant (ap entries_of c.in-Fork.is) in
+    let change = remove_less g.K.Ord.cmp g.met.K.Ord.total c.args.key.now c.in-Fork.l.value (c.in-Fork.k, c.in-Fork.field-2) c.in-Fork.r.value f.rises (sym c.in-Less.ensures) in
+    rw (c.remove-freed.ensures.rest, c.deref_mut.ensures.value) change.rises
 
 pub returns-in-Less-clause-value : goal.returns-in-Less-clause-value
 returns-in-Less-clause-value g t c =
-    let f = at_fork g.K.Ord.cmp c.args.self.now c.in-Fork.l.value c.in-Fork.k c.in-Fork.v c.in-Fork.r.value _ c.self.view_is c.self.invariant (ap entries_of (sym c.replace.ensures.value ∙ c.in-Fork.is)) in
-    ap (value_of g.K.Ord.cmp c.args.key.now) f.is ∙ value_left g.K.Ord.cmp g.met.K.Ord.total c.args.key.now c.in-Fork.l.value (c.in-Fork.k, c.in-Fork.v) c.in-Fork.r.value f.rises (sym c.in-Less.ensures) ∙ ap (value_of g.K.Ord.cmp c.args.key.now) (sym c.deref_mut.ensures.value) ∙ c.remove-freed.ensures.value
+    let f = at_fork g.K.Ord.cmp c.args.self.now c.in-Fork.l.value c.in-Fork.k c.in-Fork.field-2 c.in-Fork.r.value _ c.self.view_is c.self.invariant (ap entries_of c.in-Fork.is) in
+    ap (value_of g.K.Ord.cmp c.args.key.now) f.is ∙ value_left g.K.Ord.cmp g.met.K.Ord.total c.args.key.now c.in-Fork.l.value (c.in-Fork.k, c.in-Fork.field-2) c.in-Fork.r.value f.rises (sym c.in-Less.ensures) ∙ ap (value_of g.K.Ord.cmp c.args.key.now) (sym c.deref_mut.ensures.value) ∙ c.remove-freed.ensures.value
 
 pub returns-in-Less-clause-rest : goal.returns-in-Less-clause-rest
 returns-in-Less-clause-rest g t c =
-    let f = at_fork g.K.Ord.cmp c.args.self.now c.in-Fork.l.value c.in-Fork.k c.in-Fork.v c.in-Fork.r.value _ c.self.view_is c.self.invariant (ap entries_of (sym c.replace.ensures.value ∙ c.in-Fork.is)) in
-    let change = remove_less g.K.Ord.cmp g.met.K.Ord.total c.args.key.now c.in-Fork.l.value (c.in-Fork.k, c.in-Fork.v) c.in-Fork.r.value f.rises (sym c.in-Less.ensures) in
-    rw (c.settle.ensures, c.remove-freed.ensures.rest, c.deref_mut.ensures.value, f.is) change.is
+    let f = at_fork g.K.Ord.cmp c.args.self.now c.in-Fork.l.value c.in-Fork.k c.in-Fork.field-2 c.in-Fork.r.value _ c.self.view_is c.self.invariant (ap entries_of c.in-Fork.is) in
+    let change = remove_less g.K.Ord.cmp g.met.K.Ord.total c.args.key.now c.in-Fork.l.value (c.in-Fork.k, c.in-Fork.field-2) c.in-Fork.r.value f.rises (sym c.in-Less.ensures) in
+    rw (c.balance.ensures.same, c.remove-freed.ensures.rest, c.deref_mut.ensures.value, f.is) change.is
 
 pub remove-freed-requires-in-Greater : goal.remove-freed-requires-in-Greater
 remove-freed-requires-in-Greater g t c =
-    let f = at_fork g.K.Ord.cmp c.args.self.now c.in-Fork.l.value c.in-Fork.k c.in-Fork.v c.in-Fork.r.value _ c.self.view_is c.self.invariant (ap entries_of (sym c.replace.ensures.value ∙ c.in-Fork.is)) in
+    let f = at_fork g.K.Ord.cmp c.args.self.now c.in-Fork.l.value c.in-Fork.k c.in-Fork.field-2 c.in-Fork.r.value _ c.self.view_is c.self.invariant (ap entries_of c.in-Fork.is) in
     let short : length c.deref_mut-in-Greater.result.now < t = omega (arith, ap length c.deref_mut-in-Greater.ensures.value, f.right_shorter, c.decreases) in
     let here : IsSome (value_of g.K.Ord.cmp c.args.key.now c.deref_mut-in-Greater.result.now) =
-    subst IsSome (ap (value_of g.K.Ord.cmp c.args.key.now) f.is ∙ value_right g.K.Ord.cmp g.met.K.Ord.total c.args.key.now c.in-Fork.l.value (c.in-Fork.k, c.in-Fork.v) c.in-Fork.r.value f.rises (sym c.in-Greater.ensures) ∙ ap (value_of g.K.Ord.cmp c.args.key.now) (sym c.deref_mut-in-Greater.ensures.value)) c.requires in
+    subst IsSome (ap (value_of g.K.Ord.cmp c.args.key.now) f.is ∙ value_right g.K.Ord.cmp g.met.K.Ord.total c.args.key.now c.in-Fork.l.value (c.in-Fork.k, c.in-Fork.field-2) c.in-Fork.r.value f.rises (sym c.in-Greater.ensures) ∙ ap (value_of g.K.Ord.cmp c.args.key.now) (sym c.deref_mut-in-Greater.ensures.value)) c.requires in
     search rules
-
-pub settle-requires-in-Greater : goal.settle-requires-in-Greater
-settle-requires-in-Greater g t c =
-    let f = at_fork g.K.Ord.cmp c.args.self.now c.in-Fork.l.value c.in-Fork.k c.in-Fork.v c.in-Fork.r.value _ c.self.view_is c.self.invariant (ap entries_of (sym c.replace.ensures.value ∙ c.in-Fork.is)) in
-    let change = remove_more g.K.Ord.cmp g.met.K.Ord.total c.args.key.now c.in-Fork.l.value (c.in-Fork.k, c.in-Fork.v) c.in-Fork.r.value f.rises (sym c.in-Greater.ensures) in
-    rw (c.remove-freed-in-Greater.ensures.rest, c.deref_mut-in-Greater.ensures.value) change.rises
 
 pub invariant_of-self-in-Greater : goal.invariant_of-self-in-Greater
 invariant_of-self-in-Greater g t c =
-    let f = at_fork g.K.Ord.cmp c.args.self.now c.in-Fork.l.value c.in-Fork.k c.in-Fork.v c.in-Fork.r.value _ c.self.view_is c.self.invariant (ap entries_of (sym c.replace.ensures.value ∙ c.in-Fork.is)) in
-    let change = remove_more g.K.Ord.cmp g.met.K.Ord.total c.args.key.now c.in-Fork.l.value (c.in-Fork.k, c.in-Fork.v) c.in-Fork.r.value f.rises (sym c.in-Greater.ensures) in
-    rw (c.settle-in-Greater.ensures, c.remove-freed-in-Greater.ensures.rest, c.deref_mut-in-Greater.ensures.value) change.rises
+    let f = at_fork g.K.Ord.cmp c.args.self.now c.in-Fork.l.value c.in-Fork.k c.in-Fork.field-2 c.in-Fork.r.value _ c.self.view_is c.self.invariant (ap entries_of c.in-Fork.is) in
+    let change = remove_more g.K.Ord.cmp g.met.K.Ord.total c.args.key.now c.in-Fork.l.value (c.in-Fork.k, c.in-Fork.field-2) c.in-Fork.r.value f.rises (sym c.in-Greater.ensures) in
+    rw (c.remove-freed-in-Greater.ensures.rest, c.deref_mut-in-Greater.ensures.value) change.rises
 
 pub returns-in-Greater-clause-value : goal.returns-in-Greater-clause-value
 returns-in-Greater-clause-value g t c =
-    let f = at_fork g.K.Ord.cmp c.args.self.now c.in-Fork.l.value c.in-Fork.k c.in-Fork.v c.in-Fork.r.value _ c.self.view_is c.self.invariant (ap entries_of (sym c.replace.ensures.value ∙ c.in-Fork.is)) in
-    ap (value_of g.K.Ord.cmp c.args.key.now) f.is ∙ value_right g.K.Ord.cmp g.met.K.Ord.total c.args.key.now c.in-Fork.l.value (c.in-Fork.k, c.in-Fork.v) c.in-Fork.r.value f.rises (sym c.in-Greater.ensures) ∙ ap (value_of g.K.Ord.cmp c.args.key.now) (sym c.deref_mut-in-Greater.ensures.value) ∙ c.remove-freed-in-Greater.ensures.value
+    let f = at_fork g.K.Ord.cmp c.args.self.now c.in-Fork.l.value c.in-Fork.k c.in-Fork.field-2 c.in-Fork.r.value _ c.self.view_is c.self.invariant (ap entries_of c.in-Fork.is) in
+    ap (value_of g.K.Ord.cmp c.args.key.now) f.is ∙ value_right g.K.Ord.cmp g.met.K.Ord.total c.args.key.now c.in-Fork.l.value (c.in-Fork.k, c.in-Fork.field-2) c.in-Fork.r.value f.rises (sym c.in-Greater.ensures) ∙ ap (value_of g.K.Ord.cmp c.args.key.now) (sym c.deref_mut-in-Greater.ensures.value) ∙ c.remove-freed-in-Greater.ensures.value
 
 pub returns-in-Greater-clause-rest : goal.returns-in-Greater-clause-rest
 returns-in-Greater-clause-rest g t c =
-    let f = at_fork g.K.Ord.cmp c.args.self.now c.in-Fork.l.value c.in-Fork.k c.in-Fork.v c.in-Fork.r.value _ c.self.view_is c.self.invariant (ap entries_of (sym c.replace.ensures.value ∙ c.in-Fork.is)) in
-    let change = remove_more g.K.Ord.cmp g.met.K.Ord.total c.args.key.now c.in-Fork.l.value (c.in-Fork.k, c.in-Fork.v) c.in-Fork.r.value f.rises (sym c.in-Greater.ensures) in
-    rw (c.settle-in-Greater.ensures, c.remove-freed-in-Greater.ensures.rest, c.deref_mut-in-Greater.ensures.value, f.is) change.is
+    let f = at_fork g.K.Ord.cmp c.args.self.now c.in-Fork.l.value c.in-Fork.k c.in-Fork.field-2 c.in-Fork.r.value _ c.self.view_is c.self.invariant (ap entries_of c.in-Fork.is) in
+    let change = remove_more g.K.Ord.cmp g.met.K.Ord.total c.args.key.now c.in-Fork.l.value (c.in-Fork.k, c.in-Fork.field-2) c.in-Fork.r.value f.rises (sym c.in-Greater.ensures) in
+    rw (c.balance-in-Greater.ensures.same, c.remove-freed-in-Greater.ensures.rest, c.deref_mut-in-Greater.ensures.value, f.is) change.is
+
+pub unreachable-requires-in-Leaf-replace : goal.unreachable-requires-in-Leaf-replace
+unreachable-requires-in-Leaf-replace g t c = absurd (cc (c.replace.ensures.value, c.in-Leaf-replace.is))
+
+pub unreachable-unreachable-in-Leaf-replace : goal.unreachable-unreachable-in-Leaf-replace
+unreachable-unreachable-in-Leaf-replace g t c = c.unreachable-in-Leaf-replace.type_inv
 
 pub joined-node-requires : goal.joined-node-requires
 joined-node-requires g t c =
-    let f = at_fork g.K.Ord.cmp c.args.self.now c.in-Fork.l.value c.in-Fork.k c.in-Fork.v c.in-Fork.r.value _ c.self.view_is c.self.invariant (ap entries_of (sym c.replace.ensures.value ∙ c.in-Fork.is)) in
-    let change = remove_tied g.K.Ord.cmp g.met.K.Ord.total c.args.key.now c.in-Fork.l.value (c.in-Fork.k, c.in-Fork.v) c.in-Fork.r.value f.rises (sym c.in-Equal.ensures) in
-    change.rises
+    let f = at_fork g.K.Ord.cmp c.args.self.now c.in-Fork-replace.l.value c.in-Fork-replace.k c.in-Fork-replace.v c.in-Fork-replace.r.value _ c.self.view_is c.self.invariant (ap entries_of (c.in-Fork.is ∙ sym c.replace.ensures.value ∙ c.in-Fork-replace.is)) in
+    let tied : g.K.Ord.cmp c.args.key.now c.in-Fork-replace.k ≡ Equal = ap (λ n. g.K.Ord.cmp c.args.key.now (key_or c.in-Fork.k n)) (sym (sym c.replace.ensures.value ∙ c.in-Fork-replace.is)) ∙ sym c.in-Equal.ensures in
+    (remove_tied g.K.Ord.cmp g.met.K.Ord.total c.args.key.now c.in-Fork-replace.l.value (c.in-Fork-replace.k, c.in-Fork-replace.v) c.in-Fork-replace.r.value f.rises tied).rises
 
-pub invariant_of-self-in-Equal : goal.invariant_of-self-in-Equal
-invariant_of-self-in-Equal g t c =
-    let f = at_fork g.K.Ord.cmp c.args.self.now c.in-Fork.l.value c.in-Fork.k c.in-Fork.v c.in-Fork.r.value _ c.self.view_is c.self.invariant (ap entries_of (sym c.replace.ensures.value ∙ c.in-Fork.is)) in
-    let change = remove_tied g.K.Ord.cmp g.met.K.Ord.total c.args.key.now c.in-Fork.l.value (c.in-Fork.k, c.in-Fork.v) c.in-Fork.r.value f.rises (sym c.in-Equal.ensures) in
+pub invariant_of-self-in-Fork-replace : goal.invariant_of-self-in-Fork-replace
+invariant_of-self-in-Fork-replace g t c =
+    let f = at_fork g.K.Ord.cmp c.args.self.now c.in-Fork-replace.l.value c.in-Fork-replace.k c.in-Fork-replace.v c.in-Fork-replace.r.value _ c.self.view_is c.self.invariant (ap entries_of (c.in-Fork.is ∙ sym c.replace.ensures.value ∙ c.in-Fork-replace.is)) in
+    let tied : g.K.Ord.cmp c.args.key.now c.in-Fork-replace.k ≡ Equal = ap (λ n. g.K.Ord.cmp c.args.key.now (key_or c.in-Fork.k n)) (sym (sym c.replace.ensures.value ∙ c.in-Fork-replace.is)) ∙ sym c.in-Equal.ensures in
+    let change = remove_tied g.K.Ord.cmp g.met.K.Ord.total c.args.key.now c.in-Fork-replace.l.value (c.in-Fork-replace.k, c.in-Fork-replace.v) c.in-Fork-replace.r.value f.rises tied in
     rw c.joined-node.ensures change.rises
 
-pub returns-in-Equal-clause-value : goal.returns-in-Equal-clause-value
-returns-in-Equal-clause-value g t c =
-    let f = at_fork g.K.Ord.cmp c.args.self.now c.in-Fork.l.value c.in-Fork.k c.in-Fork.v c.in-Fork.r.value _ c.self.view_is c.self.invariant (ap entries_of (sym c.replace.ensures.value ∙ c.in-Fork.is)) in
-    ap (value_of g.K.Ord.cmp c.args.key.now) f.is ∙ value_middle g.K.Ord.cmp g.met.K.Ord.total c.args.key.now c.in-Fork.l.value (c.in-Fork.k, c.in-Fork.v) c.in-Fork.r.value f.rises (sym c.in-Equal.ensures)
+pub returns-in-Fork-replace-clause-value : goal.returns-in-Fork-replace-clause-value
+returns-in-Fork-replace-clause-value g t c =
+    let f = at_fork g.K.Ord.cmp c.args.self.now c.in-Fork-replace.l.value c.in-Fork-replace.k c.in-Fork-replace.v c.in-Fork-replace.r.value _ c.self.view_is c.self.invariant (ap entries_of (c.in-Fork.is ∙ sym c.replace.ensures.value ∙ c.in-Fork-replace.is)) in
+    let tied : g.K.Ord.cmp c.args.key.now c.in-Fork-replace.k ≡ Equal = ap (λ n. g.K.Ord.cmp c.args.key.now (key_or c.in-Fork.k n)) (sym (sym c.replace.ensures.value ∙ c.in-Fork-replace.is)) ∙ sym c.in-Equal.ensures in
+    ap (value_of g.K.Ord.cmp c.args.key.now) f.is ∙ value_middle g.K.Ord.cmp g.met.K.Ord.total c.args.key.now c.in-Fork-replace.l.value (c.in-Fork-replace.k, c.in-Fork-replace.v) c.in-Fork-replace.r.value f.rises tied
 
-pub returns-in-Equal-clause-rest : goal.returns-in-Equal-clause-rest
-returns-in-Equal-clause-rest g t c =
-    let f = at_fork g.K.Ord.cmp c.args.self.now c.in-Fork.l.value c.in-Fork.k c.in-Fork.v c.in-Fork.r.value _ c.self.view_is c.self.invariant (ap entries_of (sym c.replace.ensures.value ∙ c.in-Fork.is)) in
-    let change = remove_tied g.K.Ord.cmp g.met.K.Ord.total c.args.key.now c.in-Fork.l.value (c.in-Fork.k, c.in-Fork.v) c.in-Fork.r.value f.rises (sym c.in-Equal.ensures) in
+pub returns-in-Fork-replace-clause-rest : goal.returns-in-Fork-replace-clause-rest
+returns-in-Fork-replace-clause-rest g t c =
+    let f = at_fork g.K.Ord.cmp c.args.self.now c.in-Fork-replace.l.value c.in-Fork-replace.k c.in-Fork-replace.v c.in-Fork-replace.r.value _ c.self.view_is c.self.invariant (ap entries_of (c.in-Fork.is ∙ sym c.replace.ensures.value ∙ c.in-Fork-replace.is)) in
+    let tied : g.K.Ord.cmp c.args.key.now c.in-Fork-replace.k ≡ Equal = ap (λ n. g.K.Ord.cmp c.args.key.now (key_or c.in-Fork.k n)) (sym (sym c.replace.ensures.value ∙ c.in-Fork-replace.is)) ∙ sym c.in-Equal.ensures in
+    let change = remove_tied g.K.Ord.cmp g.met.K.Ord.total c.args.key.now c.in-Fork-replace.l.value (c.in-Fork-replace.k, c.in-Fork-replace.v) c.in-Fork-replace.r.value f.rises tied in
     rw (c.joined-node.ensures, f.is) change.is
