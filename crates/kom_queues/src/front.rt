@@ -57,9 +57,11 @@ impl Ord for Front {
     ghost matches_eq = { λ a b. refl };
 
     fn cmp(&self, other: &Front) -> Ordering {
-        compare_places(&self.at, &other.at)
-            .then(self.chan.cmp(&other.chan))
-            .then(self.dir.cmp(&other.dir))
+        match compare_places(&self.at, &other.at) {
+            Ordering::Less => Ordering::Less,
+            Ordering::Equal => self.chan.cmp(&other.chan).then(self.dir.cmp(&other.dir)),
+            Ordering::Greater => Ordering::Greater,
+        }
     }
 }
 

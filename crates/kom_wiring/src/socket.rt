@@ -52,9 +52,11 @@ impl Ord for Socket {
     ghost matches_eq = { λ a b. refl };
 
     fn cmp(&self, other: &Socket) -> Ordering {
-        compare_places(&self.at, &other.at)
-            .then(self.chan.cmp(&other.chan))
-            .then(self.end.cmp(&other.end))
+        match compare_places(&self.at, &other.at) {
+            Ordering::Less => Ordering::Less,
+            Ordering::Equal => self.chan.cmp(&other.chan).then(self.end.cmp(&other.end)),
+            Ordering::Greater => Ordering::Greater,
+        }
     }
 }
 
