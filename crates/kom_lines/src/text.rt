@@ -2,6 +2,7 @@ ghost use Rattle.std.specs.Prelude.{◌≡◌, ◌<◌, ℤ, [], ◌++◌, Some,
 ghost use Rattle.std.specs.Fmt.{decimal, signed_decimal};
 ghost use Rattle.kom_record.specs.Trace.{word, number, numbers, dotted};
 
+use itoa::Buffer;
 use kom_base::Values;
 use std::alloc::{AllocError, Global};
 use std::marker::Model;
@@ -11,7 +12,6 @@ use std::marker::Model;
 #[derive(Drop)]
 pub struct Text {
     bytes: Vec<u8>,
-    alloc: Global,
 }
 
 impl Model for Text {
@@ -29,7 +29,6 @@ impl Text {
     {
         Text {
             bytes: Vec::new(alloc),
-            alloc,
         }
     }
 
@@ -44,15 +43,15 @@ impl Text {
     pub fn add_decimal(&mut self, n: u64) -> Result<(), AllocError>
         ensures { OnOk result (self.new ≡ self.old ++ decimal n) }
     {
-        let digits = format!(in self.alloc; "{n}")?;
-        self.bytes.extend_from_slice(digits.as_bytes())
+        let mut digits = Buffer::new();
+        self.add(digits.format(n).as_bytes())
     }
 
     /// Adds a space and bytes.
     pub fn add_word(&mut self, bytes: &[u8]) -> Result<(), AllocError>
         ensures { OnOk result (self.new ≡ self.old ++ word bytes.now) }
     {
-        self.add(b" ")?;
+        self.bytes.push(b' ')?;
         self.add(bytes)
     }
 
@@ -60,7 +59,7 @@ impl Text {
     pub fn add_number(&mut self, n: u64) -> Result<(), AllocError>
         ensures { OnOk result (self.new ≡ self.old ++ number n) }
     {
-        self.add(b" ")?;
+        self.bytes.push(b' ')?;
         self.add_decimal(n)
     }
 
@@ -68,9 +67,8 @@ impl Text {
     fn add_signed(&mut self, n: i64) -> Result<(), AllocError>
         ensures { OnOk result (self.new ≡ self.old ++ word (signed_decimal n)) }
     {
-        self.add(b" ")?;
-        let digits = format!(in self.alloc; "{n}")?;
-        self.bytes.extend_from_slice(digits.as_bytes())
+        let mut digits = Buffer::new();
+        self.add_word(digits.format(n).as_bytes())
     }
 
     /// Adds a space and two names with a dot between them.
