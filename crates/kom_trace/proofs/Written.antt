@@ -20,7 +20,7 @@ use Rattle.kom_laws.proofs.Handlings.{legal_before}
 use Rattle.kom_trace.specs.declared.writing.Traced.{Traced}
 use Rattle.kom_trace.specs.declared.writing.Traced.TheVariants.{Whole, WriteFault, Memory}
 use Rattle.kom_trace.specs.Counting.{first_entries}
-use Rattle.kom_trace.specs.Seen.{end_text, Traces}
+use Rattle.kom_trace.specs.Seen.{end_text, Traces, Gathers}
 
 -- ---- pieces
 
@@ -118,28 +118,31 @@ module _ (names : List Text) (S : Declarations) where
   unfolding trace_text trace_lines joined
   text_is Z R = ap (λ t. (codes "trace 1" ++ 10 ∷ []) ++ t) (joined_both (record_lines names S R) (if is_finished S Z R then end_lines S Z R else []))
 
-  pub nothing_written : (w : Option (List ℕ)) → w ≡ option_map (λ (t : List ℕ). t ++ joined (record_lines names S [])) w
+  pub nothing_gathered : (t : Text) (w : Option (List ℕ)) → t ≡ [] → Gathers Whole (joined (record_lines names S [])) t w w
   unfolding record_lines joined
-  nothing_written w = sym (added_nothing w)
+  nothing_gathered t w e = ([], sym e, sym (added_nothing w))
 
-  module _ (n : ℕ) (R : History) (e : Entry) (within : n < length R) (at : entry_at R n ≡ Some e) (before mid after : Option (List ℕ))
-      (so_far : mid ≡ option_map (λ (t : List ℕ). t ++ joined (record_lines names S (first_entries n R))) before) where
-    lines_next : joined (record_lines names S (first_entries (n + 1) R)) ≡ joined (record_lines names S (first_entries n R)) ++ joined (entry_lines names S (first_entries n R) e)
-    lines_next = ap (λ Q. joined (record_lines names S Q)) (first_more n R e within at) ∙ lines_one_more e (first_entries n R)
+  module _ (n : ℕ) (R : History) (e : Entry) (within : n < length R) (at : entry_at R n ≡ Some e) (before mid after : Option (List ℕ)) (text kept : Text)
+      (so_far : Gathers Whole (joined (record_lines names S (first_entries n R))) text before mid) where
+    lines_next : joined (record_lines names S (first_entries (n + 1) R)) ≡ so_far.0 ++ (text ++ joined (entry_lines names S (first_entries n R) e))
+    lines_next = ap (λ Q. joined (record_lines names S Q)) (first_more n R e within at) ∙ lines_one_more e (first_entries n R) ∙ ap (λ t. t ++ joined (entry_lines names S (first_entries n R) e)) so_far.1 ∙ append_assoc so_far.0 text (joined (entry_lines names S (first_entries n R) e))
 
     -- the lines of one entry more
-    pub written_next : after ≡ option_map (λ (t : List ℕ). t ++ joined (entry_lines names S (first_entries n R) e)) mid
-        → after ≡ option_map (λ (t : List ℕ). t ++ joined (record_lines names S (first_entries (n + 1) R))) before
-    written_next h =
-        h ∙ ap (option_map (λ (t : List ℕ). t ++ joined (entry_lines names S (first_entries n R) e))) so_far
-        ∙ added_twice before (joined (record_lines names S (first_entries n R))) (joined (entry_lines names S (first_entries n R) e))
-        ∙ ap (λ x. option_map (λ (t : List ℕ). t ++ x) before) (sym lines_next)
+    pub gathered_next : Gathers Whole (text ++ joined (entry_lines names S (first_entries n R) e)) kept mid after
+        → Gathers Whole (joined (record_lines names S (first_entries (n + 1) R))) kept before after
+    gathered_next h = (
+      so_far.0 ++ h.0,
+      lines_next ∙ ap (λ t. so_far.0 ++ t) h.1 ∙ sym (append_assoc so_far.0 h.0 kept),
+      h.2 ∙ ap (option_map (λ (t : List ℕ). t ++ h.0)) so_far.2 ∙ added_twice before so_far.0 h.0,
+    )
 
     -- the front of them, where the writing stops
-    pub written_front : AddsPrefix (joined (entry_lines names S (first_entries n R) e)) mid after → AddsPrefix (joined (record_lines names S R)) before after
-    written_front h =
-        let piece = joined (entry_lines names S (first_entries n R) e) in
-        let old = joined (record_lines names S (first_entries n R)) in
+    pub gathered_front : AddsPrefix (text ++ joined (entry_lines names S (first_entries n R) e)) mid after → AddsPrefix (joined (record_lines names S R)) before after
+    gathered_front h =
         let rest = lines_go_on (n + 1) R in
-        let more : AddsPrefix (joined (record_lines names S (first_entries (n + 1) R))) before after = subst (λ (t : Text). AddsPrefix t before after) (sym lines_next) (behind old piece before mid after so_far h) in
+        let more : AddsPrefix (joined (record_lines names S (first_entries (n + 1) R))) before after = subst (λ (t : Text). AddsPrefix t before after) (sym lines_next) (behind so_far.0 (text ++ joined (entry_lines names S (first_entries n R) e)) before mid after so_far.2 h) in
         subst (λ (t : Text). AddsPrefix t before after) (sym rest.1) (front (joined (record_lines names S (first_entries (n + 1) R))) rest.0 before after more)
+
+-- what was gathered, and then the rest
+pub gathered_all : (r : Traced) (text kept : Text) (before mid after : Option (List ℕ)) → Gathers Whole text kept before mid → Traces r kept mid after → Traces r text before after
+gathered_all r text kept before mid after g h = subst (λ t. Traces r t before after) (sym g.1) (next_piece r g.0 kept before mid after g.2 h)

@@ -31,3 +31,10 @@ abbrev pub Traces : Traced → Text → Option (List ℕ) → Option (List ℕ) 
 Traces Whole text before after = after ≡ option_map (λ written. written ++ text) before
 Traces WriteFault text before after = AddsPrefix text before after
 Traces Memory text before after = AddsPrefix text before after
+
+-- the front of the text was added, and the rest is kept for later; or by another answer a prefix of it
+-- was added
+abbrev pub Gathers : Traced → Text → Text → Option (List ℕ) → Option (List ℕ) → Type 0
+Gathers Whole text kept before after = (out : Text) × (text ≡ out ++ kept) × (after ≡ option_map (λ written. written ++ out) before)
+Gathers WriteFault text kept before after = AddsPrefix text before after
+Gathers Memory text kept before after = AddsPrefix text before after

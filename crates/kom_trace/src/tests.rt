@@ -30,9 +30,8 @@ const LINES: &[u8] = b"0 0 took 0 start
 3 0 did 0 fault 107 to none
 ";
 
-/// Those of the last entry, and of the end.
-const END: &[u8] = b"3 0 did 0 fault 107 to none
-end fault 107 comp 0
+/// Those of the end.
+const END: &[u8] = b"end fault 107 comp 0
 took 1 did 2 moved 1 queued 2 out 3
 ";
 
@@ -126,8 +125,9 @@ fn each_entry_has_its_lines(rt: HostRuntime) -> Result<(), Fail> {
     let traced = written(rt.alloc(), &mut sink, &mut text)?;
     assert_eq!(rt; traced, Traced::Whole);
     assert_eq!(rt; sink.bytes(), LINES);
-    // the buffer has had room for one entry at a time
-    assert_eq!(rt; text.as_bytes(), END);
+    // few lines are gathered until the end
+    assert!(rt; text.as_bytes().starts_with(LINES));
+    assert!(rt; text.as_bytes().ends_with(END));
     Ok(())
 }
 

@@ -7,7 +7,7 @@ ghost use Rattle.kom_record.specs.Entries.{History, entry_at};
 ghost use Rattle.kom_record.specs.Legal.{IsLegal};
 ghost use Rattle.kom_record.specs.Trace.{entry_lines, record_lines, joined, trace_text};
 ghost use Rattle.kom_trace.specs.Counting.{HasCounted, IsTallyOf, first_entries};
-ghost use Rattle.kom_trace.specs.Seen.{HasSeen, end_text, written_of, Traces};
+ghost use Rattle.kom_trace.specs.Seen.{HasSeen, end_text, written_of, Traces, Gathers};
 
 use crate::counts::{Counts, count_all};
 use crate::ends::add_end;
@@ -17,6 +17,9 @@ use kom_lines::Text;
 use kom_record::{Entry, Plan, Record, Tally};
 use kom_system::System;
 use std::alloc::Global;
+
+/// How many bytes are gathered before they are written.
+const LONG: usize = 65_536;
 
 /// The answer of [`write_trace`].
 #[derive(Clone, Copy, Debug, PartialEq, Eq)]
@@ -41,7 +44,21 @@ fn write_piece<K: Sink>(sink: &mut K, text: &Text) -> Traced
     }
 }
 
-/// Writes the lines of the next entry.
+/// Writes a gathered text once it is long, and goes on with an empty one.
+fn write_long<K: Sink>(sink: &mut K, text: &mut Text) -> Traced
+    ensures written { Gathers result text.old text.new (K.written sink.old) (K.written sink.new) }
+    ensures fault { result ≡ Traced.WriteFault → Rose (K.count sink.old) (K.count sink.new) }
+    ensures counts { K.count sink.old ≤ K.count sink.new }
+{
+    if text.as_bytes().len() < LONG {
+        return Traced::Whole;
+    }
+    let traced = write_piece(sink, text);
+    text.clear();
+    traced
+}
+
+/// Gathers the lines of the next entry.
 fn write_entry<K: Sink>(
     sink: &mut K,
     scribe: &mut Scribe<'_>,
@@ -50,20 +67,19 @@ fn write_entry<K: Sink>(
 ) -> Traced
     ensures names { scribe.new.names ≡ scribe.old.names }
     ensures written { (Z : Plan) (P : History) → HasSeen scribe.old P → ∥ IsLegal scribe.old.names.declarations Z (entry.now ∷ P) ∥₁
-        → Traces result (joined (entry_lines scribe.old.names.event_names scribe.old.names.declarations P entry.now)) (K.written sink.old) (K.written sink.new) }
+        → Gathers result (text.old ++ joined (entry_lines scribe.old.names.event_names scribe.old.names.declarations P entry.now)) text.new (K.written sink.old) (K.written sink.new) }
     ensures seen { (Z : Plan) (P : History) → HasSeen scribe.old P → ∥ IsLegal scribe.old.names.declarations Z (entry.now ∷ P) ∥₁
         → result ≡ Traced.Whole → HasSeen scribe.new (entry.now ∷ P) }
     ensures fault { result ≡ Traced.WriteFault → Rose (K.count sink.old) (K.count sink.new) }
     ensures counts { K.count sink.old ≤ K.count sink.new }
 {
-    text.clear();
     match scribe.entry_text(text, entry) {
-        Ok(()) => write_piece(sink, text),
+        Ok(()) => write_long(sink, text),
         Err(_) => Traced::Memory,
     }
 }
 
-/// Writes the lines of the entry at a position.
+/// Gathers the lines of the entry at a position.
 fn write_entry_at<K: Sink>(
     sink: &mut K,
     scribe: &mut Scribe<'_>,
@@ -75,7 +91,7 @@ fn write_entry_at<K: Sink>(
     ensures names { scribe.new.names ≡ scribe.old.names }
     ensures written { (Z : Plan) (e : Entry) → entry_at kept.now.history i ≡ Some e → HasSeen scribe.old (first_entries i kept.now.history)
         → ∥ IsLegal scribe.old.names.declarations Z (e ∷ first_entries i kept.now.history) ∥₁
-        → Traces result (joined (entry_lines scribe.old.names.event_names scribe.old.names.declarations (first_entries i kept.now.history) e)) (K.written sink.old) (K.written sink.new) }
+        → Gathers result (text.old ++ joined (entry_lines scribe.old.names.event_names scribe.old.names.declarations (first_entries i kept.now.history) e)) text.new (K.written sink.old) (K.written sink.new) }
     ensures seen { (Z : Plan) (e : Entry) → entry_at kept.now.history i ≡ Some e → HasSeen scribe.old (first_entries i kept.now.history)
         → ∥ IsLegal scribe.old.names.declarations Z (e ∷ first_entries i kept.now.history) ∥₁
         → result ≡ Traced.Whole → HasSeen scribe.new (e ∷ first_entries i kept.now.history) }
@@ -88,7 +104,33 @@ fn write_entry_at<K: Sink>(
     }
 }
 
-/// Writes the lines of all entries, each through the same buffer.
+/// Gathers the lines of all entries, and writes what is long.
+fn gather_entries<K: Sink>(
+    sink: &mut K,
+    scribe: &mut Scribe<'_>,
+    text: &mut Text,
+    kept: &Record,
+) -> Traced
+    requires { text.old ≡ [] }
+    ensures names { scribe.new.names ≡ scribe.old.names }
+    ensures written { (Z : Plan) → HasSeen scribe.old [] → ∥ IsLegal scribe.old.names.declarations Z kept.now.history ∥₁
+        → Gathers result (joined (record_lines scribe.old.names.event_names scribe.old.names.declarations kept.now.history)) text.new (K.written sink.old) (K.written sink.new) }
+    ensures seen { (Z : Plan) → HasSeen scribe.old [] → ∥ IsLegal scribe.old.names.declarations Z kept.now.history ∥₁
+        → result ≡ Traced.Whole → HasSeen scribe.new kept.now.history }
+    ensures fault { result ≡ Traced.WriteFault → Rose (K.count sink.old) (K.count sink.new) }
+    ensures counts { K.count sink.old ≤ K.count sink.new }
+{
+    for i in 0..kept.len() {
+        match write_entry_at(sink, scribe, text, kept, i) {
+            Traced::Whole => {}
+            Traced::WriteFault => return Traced::WriteFault,
+            Traced::Memory => return Traced::Memory,
+        }
+    }
+    Traced::Whole
+}
+
+/// Writes the lines of all entries, many at a time through the same buffer.
 pub(crate) fn write_entries<K: Sink>(
     sink: &mut K,
     scribe: &mut Scribe<'_>,
@@ -103,14 +145,12 @@ pub(crate) fn write_entries<K: Sink>(
     ensures fault { result ≡ Traced.WriteFault → Rose (K.count sink.old) (K.count sink.new) }
     ensures counts { K.count sink.old ≤ K.count sink.new }
 {
-    for i in 0..kept.len() {
-        match write_entry_at(sink, scribe, text, kept, i) {
-            Traced::Whole => {}
-            Traced::WriteFault => return Traced::WriteFault,
-            Traced::Memory => return Traced::Memory,
-        }
+    text.clear();
+    match gather_entries(sink, scribe, text, kept) {
+        Traced::Whole => write_piece(sink, text),
+        Traced::WriteFault => Traced::WriteFault,
+        Traced::Memory => Traced::Memory,
     }
-    Traced::Whole
 }
 
 /// Writes what the text ends with.
@@ -236,8 +276,9 @@ fn write_brief<K: Sink>(
 
 /// Writes the text of a record that is legal for a system and a plan, or where `brief` only what the
 /// text ends with, which is its two last lines where the record is finished and else nothing. `tally`
-/// is what the record leaves. One buffer serves for each entry in turn, so the text is never held
-/// whole. Whatever the answer, what was written is a prefix of it, and with `Whole` all of it.
+/// is what the record leaves. The lines are gathered in one buffer, which is written whenever it is
+/// long, so the text is never held whole. Whatever the answer, what was written is a prefix of it,
+/// and with `Whole` all of it.
 pub fn write_trace<K: Sink>(
     alloc: Global,
     system: &System,

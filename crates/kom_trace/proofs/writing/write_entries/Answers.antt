@@ -1,75 +1,23 @@
-use Rattle.std.proofs.Common.{◌<◌, ◌∷◌, refl, sym, subst, ◌∙◌, length, arith}
-use Rattle.kom_record.specs.Legal.{IsLegal}
-use Rattle.kom_record.specs.Trace.{entry_lines, joined}
-use Rattle.kom_trace.specs.Counting.{first_entries}
-use Rattle.kom_trace.specs.Seen.{HasSeen, Traces}
-use Rattle.kom_trace.proofs.Written.{nothing_written, entry_there, next_legal, first_more, written_next, written_front}
+use Rattle.std.proofs.Common.{subst}
+use Rattle.kom_record.specs.Trace.{record_lines, joined}
+use Rattle.kom_trace.specs.Seen.{Gathers}
+use Rattle.kom_trace.proofs.Written.{gathered_all}
 use Rattle.kom_trace.proofs.writing.write_entries.Goals as goal
 
-pub loop-i-init : goal.loop-i-init
-loop-i-init g c = record {
-  names = refl;
-  seen = λ Z h l. h;
-  written = λ Z h l. nothing_written c.args.scribe.now.names.event_names c.args.scribe.now.names.declarations (g.K.Sink.written c.args.sink.now);
-  counts = omega arith;
-}
-
-pub loop-i-preserved : goal.loop-i-preserved
-loop-i-preserved g c =
-    let R = c.args.kept.now.history in
-    let i = c.loop-i.i in
-    let S = c.args.scribe.now.names.declarations in
-    let names = c.args.scribe.now.names.event_names in
-    let within : i < length R = omega (arith, c.loop-i-test.true, c.len-i-end.ensures) in
-    let it = entry_there R i within in
-    let P = first_entries i R in
-    let mid = g.K.Sink.written c.loop-i.sink in
-    let after = g.K.Sink.written c.write_entry_at.new.sink in
-    record {
-      names = c.write_entry_at.ensures.names ∙ c.loop-i.invariant.names;
-      seen = λ Z h l.
-          subst (HasSeen c.write_entry_at.new.scribe) (sym (first_more i R it.0 within it.1))
-          (c.write_entry_at.ensures.seen Z it.0 it.1 (c.loop-i.invariant.seen Z h l)
-          (subst (λ n. ∥ IsLegal n.declarations Z (it.0 ∷ P) ∥₁) (sym c.loop-i.invariant.names) (next_legal S Z i R it.0 within it.1 l)) c.in-Whole.is);
-      written = λ Z h l.
-          written_next names S i R it.0 within it.1 (g.K.Sink.written c.args.sink.now) mid after (c.loop-i.invariant.written Z h l)
-          (subst (λ r. Traces r (joined (entry_lines names S P it.0)) mid after) c.in-Whole.is
-          (subst (λ n. Traces c.write_entry_at.result (joined (entry_lines n.event_names n.declarations P it.0)) mid after) c.loop-i.invariant.names
-          (c.write_entry_at.ensures.written Z it.0 it.1 (c.loop-i.invariant.seen Z h l)
-          (subst (λ n. ∥ IsLegal n.declarations Z (it.0 ∷ P) ∥₁) (sym c.loop-i.invariant.names) (next_legal S Z i R it.0 within it.1 l)))));
-      counts = omega (arith, c.loop-i.invariant.counts, c.write_entry_at.ensures.counts);
-    }
+pub returns-in-Whole-clause-written : goal.returns-in-Whole-clause-written
+returns-in-Whole-clause-written g c Z h l =
+    let lines = joined (record_lines c.args.scribe.now.names.event_names c.args.scribe.now.names.declarations c.args.kept.now.history) in
+    let before = g.K.Sink.written c.args.sink.now in
+    let mid = g.K.Sink.written c.gather_entries.new.sink in
+    gathered_all c.write_piece.result lines c.gather_entries.new.text before mid (g.K.Sink.written c.write_piece.new.sink)
+    (subst (λ r. Gathers r lines c.gather_entries.new.text before mid) c.in-Whole.is (c.gather_entries.ensures.written Z h l)) c.write_piece.ensures.written
 
 pub returns-in-WriteFault-clause-written : goal.returns-in-WriteFault-clause-written
 returns-in-WriteFault-clause-written g c Z h l =
-    let R = c.args.kept.now.history in
-    let i = c.loop-i.i in
-    let S = c.args.scribe.now.names.declarations in
-    let names = c.args.scribe.now.names.event_names in
-    let within : i < length R = omega (arith, c.loop-i-test.true, c.len-i-end.ensures) in
-    let it = entry_there R i within in
-    let P = first_entries i R in
-    let mid = g.K.Sink.written c.loop-i.sink in
-    let after = g.K.Sink.written c.write_entry_at.new.sink in
-    written_front names S i R it.0 within it.1 (g.K.Sink.written c.args.sink.now) mid after (c.loop-i.invariant.written Z h l)
-    (subst (λ r. Traces r (joined (entry_lines names S P it.0)) mid after) c.in-WriteFault.is
-    (subst (λ n. Traces c.write_entry_at.result (joined (entry_lines n.event_names n.declarations P it.0)) mid after) c.loop-i.invariant.names
-    (c.write_entry_at.ensures.written Z it.0 it.1 (c.loop-i.invariant.seen Z h l)
-    (subst (λ n. ∥ IsLegal n.declarations Z (it.0 ∷ P) ∥₁) (sym c.loop-i.invariant.names) (next_legal S Z i R it.0 within it.1 l)))))
+    let lines = joined (record_lines c.args.scribe.now.names.event_names c.args.scribe.now.names.declarations c.args.kept.now.history) in
+    subst (λ r. Gathers r lines c.gather_entries.new.text (g.K.Sink.written c.args.sink.now) (g.K.Sink.written c.gather_entries.new.sink)) c.in-WriteFault.is (c.gather_entries.ensures.written Z h l)
 
 pub returns-in-Memory-clause-written : goal.returns-in-Memory-clause-written
 returns-in-Memory-clause-written g c Z h l =
-    let R = c.args.kept.now.history in
-    let i = c.loop-i.i in
-    let S = c.args.scribe.now.names.declarations in
-    let names = c.args.scribe.now.names.event_names in
-    let within : i < length R = omega (arith, c.loop-i-test.true, c.len-i-end.ensures) in
-    let it = entry_there R i within in
-    let P = first_entries i R in
-    let mid = g.K.Sink.written c.loop-i.sink in
-    let after = g.K.Sink.written c.write_entry_at.new.sink in
-    written_front names S i R it.0 within it.1 (g.K.Sink.written c.args.sink.now) mid after (c.loop-i.invariant.written Z h l)
-    (subst (λ r. Traces r (joined (entry_lines names S P it.0)) mid after) c.in-Memory.is
-    (subst (λ n. Traces c.write_entry_at.result (joined (entry_lines n.event_names n.declarations P it.0)) mid after) c.loop-i.invariant.names
-    (c.write_entry_at.ensures.written Z it.0 it.1 (c.loop-i.invariant.seen Z h l)
-    (subst (λ n. ∥ IsLegal n.declarations Z (it.0 ∷ P) ∥₁) (sym c.loop-i.invariant.names) (next_legal S Z i R it.0 within it.1 l)))))
+    let lines = joined (record_lines c.args.scribe.now.names.event_names c.args.scribe.now.names.declarations c.args.kept.now.history) in
+    subst (λ r. Gathers r lines c.gather_entries.new.text (g.K.Sink.written c.args.sink.now) (g.K.Sink.written c.gather_entries.new.sink)) c.in-Memory.is (c.gather_entries.ensures.written Z h l)
