@@ -4,5 +4,7 @@
 mod ends;
 mod machine;
 mod ready;
+#[cfg(test)]
+mod tests;
 
 pub use machine::{Begun, Core};

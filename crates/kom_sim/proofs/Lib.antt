@@ -3,4 +3,4 @@ mod Lines
 mod Orders
 mod Records
 mod Handled
-mod Jobs
+pub mod Jobs
