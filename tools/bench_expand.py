@@ -8,11 +8,10 @@ the repository:
     python3 tools/bench_expand.py FOLDER
 """
 
-import pathlib
 import shutil
 import subprocess
-import sys
-import time
+
+from timing import seconds, top_and_folder
 
 TIMES = 20
 
@@ -90,15 +89,8 @@ def write_repository(top, out):
     (bench / "proofs" / "Lib.antt").write_text("")
 
 
-def seconds(program):
-    start = time.perf_counter()
-    subprocess.run([program], check=True)
-    return time.perf_counter() - start
-
-
 def main():
-    top = pathlib.Path(__file__).resolve().parent.parent
-    out = pathlib.Path(sys.argv[1])
+    top, out = top_and_folder()
     write_repository(top, out)
     subprocess.run(["rt", "ci"], cwd=out, check=True)
     program = out / "crates" / "bench" / "out" / "bench"

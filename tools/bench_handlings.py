@@ -8,11 +8,10 @@ the repository:
     python3 tools/bench_handlings.py FOLDER
 """
 
-import pathlib
 import shutil
 import subprocess
-import sys
-import time
+
+from timing import seconds, top_and_folder
 
 CRATES = ["kom_base", "kom_events", "kom_lang", "kom_system", "kom_values", "kom_steps"]
 TURNS = 1000 * 10000
@@ -145,15 +144,8 @@ def write_repository(top, out):
         (bench / "proofs/sample" / proof).write_text(text)
 
 
-def seconds(program):
-    start = time.perf_counter()
-    subprocess.run([program], check=True)
-    return time.perf_counter() - start
-
-
 def main():
-    top = pathlib.Path(__file__).resolve().parent.parent
-    out = pathlib.Path(sys.argv[1])
+    top, out = top_and_folder()
     write_repository(top, out)
     bench = out / "crates" / "bench"
     subprocess.run(["rt", "run"], cwd=bench, check=True)

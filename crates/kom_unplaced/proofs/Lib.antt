@@ -1,0 +1,9 @@
+pub mod Lists
+pub mod Names
+pub mod Exprs
+pub mod Undeclared
+pub mod Declaring
+pub mod Handling
+pub mod Rules
+pub mod Value
+pub mod Clashes

@@ -1,0 +1,4 @@
+pub mod Unplaced
+pub mod Tokens
+pub mod Declarations
+pub mod Again
