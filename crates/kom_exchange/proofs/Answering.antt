@@ -1,5 +1,5 @@
 -- What a station answers, as the exchange tells it.
-use Rattle.std.proofs.Common.{◌≡◌, ◌≢◌, inl, inr, ℕ, List, [], ◌∷◌, sym, refl, ap, subst, ◌∙◌, ne_eqb}
+use Rattle.std.proofs.Common.{◌≡◌, ◌≢◌, inl, inr, ℕ, List, [], ◌∷◌, sym, refl, ap, subst, ◌∙◌, ne_eqb, ap₂}
 use Rattle.std.specs.Prelude.{Option, Some, None}
 use Rattle.std.proofs.Math.Logic.{∥∥₁_elim}
 use base.Stored.{Coded-set}
@@ -33,11 +33,12 @@ use Rattle.kom_exchange.specs.declared.view.About.{About}
 use Rattle.kom_exchange.specs.declared.view.View.{View}
 use Rattle.kom_exchange.specs.Later.{Abouts, hand_of, about_of}
 use Rattle.kom_exchange.specs.declared.exchange.Seat.{Seat}
-use Rattle.kom_exchange.specs.Seats.{view, HasJob}
+use Rattle.kom_exchange.specs.Seats.{view, HasJob, HasEnded}
 use Rattle.kom_exchange.specs.Rule.{left, told}
 use Rattle.kom_exchange.specs.Calls.{Enters, Called, Grows, count_taken, count_committed, count_rest}
 use Rattle.kom_exchange.proofs.Hands.{of, did_stays, hand_is}
 use Rattle.kom_exchange.proofs.Entering.{whole, leaves}
+use Rattle.kom_exchange.proofs.Gone.{free_again}
 
 abbrev pub here : System → Plan → Abouts
 here S Z = let a : About = record { system = S; plan = Z } in Some a
@@ -102,11 +103,33 @@ rest_grows S Z w m resting.End old new is t = inl (refl, t.4)
 rest_grows S Z w m resting.Closed old new is t = inl (refl, t.1)
 rest_grows S Z w m resting.Memory old new is t = inl (refl, t)
 
-pub has_job : (S : System) (Z : Plan) (m c : ℕ) (answer : Taken) (old new : History) (s : Seat) → AnswersTake S Z old m c answer new → s.number ≡ m → (view s).own.seen ≡ new → HasJob S answer s
-has_job S Z m c (taken.Job j) old new s t number seen = (t.worker ∙ sym number, subst (λ (R : History). IsInHand S R j) (sym seen) (taken_in_hand S Z old m c j new t))
-has_job S Z m c taken.Nothing old new s t number seen = tt
-has_job S Z m c taken.Closed old new s t number seen = tt
-has_job S Z m c taken.Memory old new s t number seen = tt
+-- the seat has nothing in hand in what it has seen
+free_seat : (s : Seat) (m : ℕ) (old new : History) → new ≡ old → IsFree old m → s.number ≡ m → (view s).own.seen ≡ new → IsFree (view s).own.seen s.number
+free_seat s m old new same free number seen = ap₂ job_of (seen ∙ same) number ∙ free
+
+pub has_job : (S : System) (Z : Plan) (m c : ℕ) (answer : Taken) (old new : History) (s : Seat) → AnswersTake S Z old m c answer new → IsFree old m → s.number ≡ m → (view s).own.seen ≡ new → HasJob S answer s
+has_job S Z m c (taken.Job j) old new s t free number seen = (t.worker ∙ sym number, subst (λ (R : History). IsInHand S R j) (sym seen) (taken_in_hand S Z old m c j new t))
+has_job S Z m c taken.Nothing old new s t free number seen = free_seat s m old new t.2 free number seen
+has_job S Z m c taken.Closed old new s t free number seen = free_seat s m old new t.1 free number seen
+has_job S Z m c taken.Memory old new s t free number seen = free_seat s m old new t free number seen
+
+pub has_ended : (S : System) (Z : Plan) (r : Ran) (answer : Committed) (old new : History) (s : Seat) → AnswersCommit S Z old r answer new → ∥ IsLegal S.declarations Z new ∥₁ → IsInHand S old r.job → r.job.w ≡ s.number → (view s).own.seen ≡ new → HasEnded S answer s
+has_ended S Z r (committed.Wakes woken) old new s t legal held number seen =
+    let o = recorded (alive S.declarations (acts old) r.job.c) r.outcome in
+    ap₂ job_of (seen ∙ t.added) (sym number)
+    ∙ free_again S.declarations Z old r.job.w t.hand o (subst (λ (Q : History). ∥ IsLegal S.declarations Z Q ∥₁) t.added legal) t.found
+has_ended S Z r (committed.Memory back) old new s t legal held number seen =
+    (ap (λ (x : Ran). x.job.w) t.0 ∙ number, subst (λ (R : History). IsInHand S R back.job) (sym (seen ∙ t.1)) (subst (λ (x : Ran). IsInHand S old x.job) (sym t.0) held))
+
+-- a rest leaves what is in hand
+pub rest_hand : (S : System) (Z : Plan) (w m : ℕ) (answer : Rest) (old new : History) → AnswersRest S.declarations Z old m answer new → job_of new w ≡ job_of old w
+unfolding job_of in_hand
+rest_hand S Z w m (resting.Moved woken) old new t = ap (λ (R : History). job_of R w) t.added
+rest_hand S Z w m (resting.Ready c) old new t = ap (λ (R : History). job_of R w) t.2
+rest_hand S Z w m resting.Waiting old new t = ap (λ (R : History). job_of R w) t.3
+rest_hand S Z w m resting.End old new t = ap (λ (R : History). job_of R w) t.4
+rest_hand S Z w m resting.Closed old new t = ap (λ (R : History). job_of R w) t.1
+rest_hand S Z w m resting.Memory old new t = ap (λ (R : History). job_of R w) t
 
 -- ---- what a worker has in hand, in the record that it has seen and in the whole one
 
@@ -117,6 +140,20 @@ no_job (Some h) f e = absurd cc
 pub free_at : (S : System) (Z : Plan) (w : ℕ) (P Q : History) → hand_of (here S Z) w P ≡ hand_of (here S Z) w Q → IsFree P w → IsFree Q w
 unfolding job_of
 free_at S Z w P Q e f = no_job (of w (in_hand Q)) (held_at S Q) (ap (option_map (held_at S P)) (sym f) ∙ e)
+
+-- of what is in a hand, the job alone
+job_alone : (f : TakenJob → Option Body) (o : Option TakenJob) → option_map {T = TakenJob × Option Body} (λ q. q.0) (option_map {U = TakenJob × Option Body} (λ h. (h, f h)) o) ≡ o
+job_alone f None = refl
+job_alone f (Some h) = refl
+
+pub same_job : (S : System) (Z : Plan) (w : ℕ) (P Q : History) → hand_of (here S Z) w P ≡ hand_of (here S Z) w Q → job_of Q w ≡ job_of P w
+unfolding job_of
+same_job S Z w P Q e =
+    sym (job_alone (λ h. body_at S.declarations Q h.c) (of w (in_hand Q))) ∙ ap (option_map (λ (q : TakenJob × Option Body). q.0)) (sym e) ∙ job_alone (λ h. body_at S.declarations P h.c) (of w (in_hand P))
+
+pub no_hand : (S : System) (Z : Plan) (w : ℕ) (P : History) → hand_of (here S Z) w P ≡ None → IsFree P w
+unfolding job_of
+no_hand S Z w P e = sym (job_alone (λ h. body_at S.declarations P h.c) (of w (in_hand P))) ∙ ap (option_map (λ (q : TakenJob × Option Body). q.0)) e
 
 one_job : (h : TakenJob) (b : Option Body) (o : Option TakenJob) (f : TakenJob → Option Body) → Some (h, b) ≡ option_map {U = TakenJob × Option Body} (λ k. (k, f k)) o → (o ≡ Some h) × (f h ≡ b)
 one_job h b None f e = absurd cc
@@ -147,6 +184,13 @@ module _ {T : Type 0} (system : T → System) (plan : T → Plan) (history : T �
       free_at (system given) (plan given) m v.own.seen (history x)
       (subst (λ (n : ℕ). hand_of (here (system given) (plan given)) n v.own.seen ≡ hand_of (here (system given) (plan given)) n (history x)) number
       (subst (λ (a : Abouts). hand_of a v.own.number v.own.seen ≡ hand_of a v.own.number (history x)) at f'.hand)) f
+
+  pub same_hand : (given x : T) (v v' w : View) (m : ℕ) → v' ≡ v → At given v → v.own.number ≡ m → Enters history (about_of system plan) v' x w → job_of (history x) m ≡ job_of v.own.seen m
+  same_hand given x v v' w m sat at number e =
+      let f' = subst (λ (z : View). Enters history (about_of system plan) z x w) sat e in
+      same_job (system given) (plan given) m v.own.seen (history x)
+      (subst (λ (n : ℕ). hand_of (here (system given) (plan given)) n v.own.seen ≡ hand_of (here (system given) (plan given)) n (history x)) number
+      (subst (λ (a : Abouts). hand_of a v.own.number v.own.seen ≡ hand_of a v.own.number (history x)) at f'.hand))
 
   pub is_held : (given x : T) (v v' w : View) (job : Job) → v' ≡ v → At given v → v.own.number ≡ job.w → Enters history (about_of system plan) v' x w → IsInHand (system given) v.own.seen job → IsInHand (system x) (history x) job
   is_held given x v v' w job sat at number e k =

@@ -206,7 +206,7 @@ module _ {T : Type 0} (entries : T → History) (about : T → Abouts) (given : 
   -- where a seat has all the numbers, no other has the turn, and the station is at home
   pub ends : (id : ℕ) (v : View) (n : ℕ) (ws : List ℕ) (xs : List (Option T)) → v.spent ≡ false → v.stage ≡ Idle → v.next ≡ Some n → part_count v ≡ n → Final (SeenAt Ok id v) ws xs
       → (x : T) × (get_elem? xs 0 ≡ some (Some x)) × (start ≡ length (entries given)) × (about x ≡ about given) × IsLater (entries x) (entries given) × Every (OwnOk (entries x) (length (entries given)) (about given)) (parts v)
-      × ((y : ℕ) → n ≤ y → positions y (length (entries given)) (entries x) ≡ [])
+      × ((y : ℕ) → n ≤ y → (positions y (length (entries given)) (entries x) ≡ []) × (hand_of (about given) y (entries x) ≡ None))
   ends id v n ws xs live st right all f = let s : St = f.0 in let k : Ok s = f.1.0 in let at = f.1.1 in let ok = k.each_view id v at in let is : n ≡ k.next = ok.right n right in
       ⊎_elim
       (λ h. let x : T = h.0 in let same : k.history ≡ entries x = sym h.2 in (
@@ -216,7 +216,7 @@ module _ {T : Type 0} (entries : T → History) (about : T → Abouts) (given : 
         h.3,
         subst (λ (l : History). IsLater l (entries given)) same k.begun,
         subst (λ (l : History). Every (OwnOk l (length (entries given)) (about given)) (parts v)) same ok.each,
-        λ y le. ap (positions y (length (entries given))) (sym same) ∙ (k.others y (omega arith)).0,
+        λ y le. let o = k.others y (omega arith) in (ap (positions y (length (entries given))) (sym same) ∙ o.0, ap (hand_of (about given) y) (sym same) ∙ o.1),
       ))
       (λ h. let j : ℕ = h.1.0 in let u : View = h.1.1 in let t : ℕ = h.1.2 in let u_ok = k.each_view j u h.1.3 in
       let apart : id ≢ j = λ e. absurd (let z : v ≡ u = some-injective v u (sym at ∙ (ap (get_elem? s.views) e ∙ h.1.3)) in let g : Idle ≡ Turn t = sym st ∙ (ap (λ (y : View). y.stage) z ∙ h.1.4) in cc) in
@@ -227,7 +227,7 @@ module _ {T : Type 0} (entries : T → History) (about : T → Abouts) (given : 
   -- the station that comes out of the slot is that one
   abbrev pub Ended : (n : ℕ) (v : View) → T → Type 0
   Ended n v x = (start ≡ length (entries given)) × (about x ≡ about given) × IsLater (entries x) (entries given) × Every (OwnOk (entries x) (length (entries given)) (about given)) (parts v)
-      × ((y : ℕ) → n ≤ y → positions y (length (entries given)) (entries x) ≡ [])
+      × ((y : ℕ) → n ≤ y → (positions y (length (entries given)) (entries x) ≡ []) × (hand_of (about given) y (entries x) ≡ None))
 
   pub found : (id : ℕ) (v : View) (n : ℕ) (ws : List ℕ) (xs : List (Option T)) (o : Option T) → v.spent ≡ false → v.stage ≡ Idle → v.next ≡ Some n → part_count v ≡ n → Final (SeenAt Ok id v) ws xs
       → get_elem? xs 0 ≡ some o → (x : T) × (o ≡ Some x)

@@ -4,8 +4,10 @@ use Rattle.atomic_table.specs.declared.shared.Seat as table
 use Rattle.atomic_table.specs.Seated.{TableId}
 use Rattle.kom_record.specs.declared.answers.Taken.{Taken}
 use Rattle.kom_record.specs.declared.answers.Taken.TheVariants as taken
+use Rattle.kom_record.specs.declared.answers.Committed.{Committed}
+use Rattle.kom_record.specs.declared.answers.Committed.TheVariants as committed
 use Rattle.kom_record.specs.Entries.{History}
-use Rattle.kom_record.specs.Answers.{IsInHand}
+use Rattle.kom_record.specs.Answers.{IsFree, IsInHand}
 use Rattle.kom_system.specs.declared.system.System.{System}
 use Rattle.kom_exchange.specs.Later.{Abouts, IsLater}
 use Rattle.kom_exchange.specs.declared.view.Own.{Own}
@@ -28,12 +30,17 @@ given_to e = e.table.shared.key.given.value
 abbrev pub IsSeatOf : {T A : Type 0} → (T → Abouts) → Exchange T A → Seat → Type 0
 IsSeatOf about e s = (s.badge.table_id ≡ e.table.shared.table_id) × ((view s).own.about ≡ about (given_to e))
 
--- an answered job is the seat's, and in its hand
+-- an answered job is the seat's, and in its hand; else its hand is empty
 abbrev pub HasJob : System → Taken → Seat → Type 0
 HasJob S (taken.Job j) s = (j.w ≡ s.number) × IsInHand S (view s).own.seen j
-HasJob S taken.Nothing s = Unit {0}
-HasJob S taken.Closed s = Unit {0}
-HasJob S taken.Memory s = Unit {0}
+HasJob S taken.Nothing s = IsFree (view s).own.seen s.number
+HasJob S taken.Closed s = IsFree (view s).own.seen s.number
+HasJob S taken.Memory s = IsFree (view s).own.seen s.number
+
+-- the job of the seat is ended, and its hand is empty; or the job came back, and is still in its hand
+abbrev pub HasEnded : System → Committed → Seat → Type 0
+HasEnded S (committed.Wakes woken) s = IsFree (view s).own.seen s.number
+HasEnded S (committed.Memory ran) s = (ran.job.w ≡ s.number) × IsInHand S (view s).own.seen ran.job
 
 abbrev pub IsSameSeat : Seat → Seat → Type 0
 IsSameSeat s t = (t.badge.table_id ≡ s.badge.table_id) × (t.number ≡ s.number)

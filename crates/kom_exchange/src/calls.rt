@@ -1,17 +1,18 @@
 //! A call: take the turn and the station, let it answer, tell of its entry, and give both back.
 ghost use Rattle.std.specs.Prelude.{◌≡◌, ◌≤◌, ◌<◌, length, [], ◌∷◌, false, None};
 ghost use Rattle.kom_record.specs.Legal.{IsLegal};
-ghost use Rattle.kom_record.specs.Answers.{AnswersTake, AnswersCommit, AnswersRest, IsFree, IsInHand};
+ghost use Rattle.kom_record.specs.Answers.{AnswersTake, AnswersCommit, AnswersRest, IsFree, IsInHand, job_of};
 ghost use Rattle.kom_exchange.specs.Later.{about_of};
 ghost use Rattle.kom_exchange.specs.Calls.{IsIdleAt, HasTurn, Enters, Called, IsSame, Grows, count_taken, count_committed, count_rest};
 ghost use Rattle.kom_exchange.specs.Rule.{left, told};
-ghost use Rattle.kom_exchange.specs.Seats.{view, given_to, IsSeatOf, IsSameSeat, HasJob};
+ghost use Rattle.kom_exchange.specs.Seats.{view, given_to, IsSeatOf, IsSameSeat, HasJob, HasEnded};
 
 use crate::exchange::{Exchange, Place, Seat, sit};
 use crate::plays::{Count, Draw, Look, Pass};
 use kom_base::Comp;
 use kom_record::{Committed, Ran, Rest, Station, Taken};
 use std::alloc::Allocator;
+use std::hint;
 use std::sync::Wait;
 
 const COUNT: usize = 0;
@@ -21,6 +22,9 @@ const TICKET: usize = 1;
 const SERVING: usize = 2;
 
 const LOW_HALF: u64 = 0xffff_ffff;
+
+/// How often a thread looks again for its turn before it sleeps.
+const LOOKS: u32 = 500;
 
 fn count_of_taken(answer: &Taken) -> u64
     ensures { result ≡ count_taken answer.now }
@@ -50,7 +54,8 @@ fn count_of_rest(answer: &Rest) -> u64
 }
 
 impl<T: Station, A: Allocator> Exchange<T, A> {
-    /// Waits for the turn and takes the station. It may wait for ever; a thread that waits sleeps.
+    /// Waits for the turn and takes the station. It may wait for ever; a thread that waits looks a few
+    /// times more, since a turn is short, and then sleeps.
     fn enter<R: Wait>(&self, rt: &R, place: &mut Place<T>) -> T
         requires { (place.old.table_id ≡ self.now.table.shared.table_id) × IsIdleAt place.old }
         ensures place { IsSame place.old place.new × (place.new.me.1 ≡ (0, None) ∷ []) }
@@ -58,6 +63,7 @@ impl<T: Station, A: Allocator> Exchange<T, A> {
     {
         let shared = &self.table.shared;
         let ticket = shared.fetch_add::<Draw>(place, TICKET, 1);
+        let mut patience = LOOKS;
         for _ in rt.forever() {
             let serving = shared.load::<Look>(place, SERVING);
             if serving == ticket {
@@ -66,7 +72,12 @@ impl<T: Station, A: Allocator> Exchange<T, A> {
                     None => unreachable!(),
                 };
             }
-            shared.park(rt, SERVING, (serving & LOW_HALF) as u32);
+            if patience > 0 {
+                patience -= 1;
+                hint::spin_loop();
+            } else {
+                shared.park(rt, SERVING, (serving & LOW_HALF) as u32);
+            }
         }
         unreachable!()
     }
@@ -91,7 +102,7 @@ impl<T: Station, A: Allocator> Exchange<T, A> {
     ///
     /// The answer is the station's for the record at the seat's turn: the next item as a job, which is
     /// then in the seat's hand; nothing; that the record is closed; or want of memory, with nothing
-    /// taken. The call may wait for the seats that asked before.
+    /// taken. With these the hand stays empty. The call may wait for the seats that asked before.
     pub fn take<R: Wait>(&self, rt: &R, seat: &mut Seat, c: Comp) -> Taken
         requires seat { IsSeatOf (about_of T.system T.plan) self.now seat.old }
         requires free { IsFree (view seat.old).own.seen seat.old.number }
@@ -110,14 +121,16 @@ impl<T: Station, A: Allocator> Exchange<T, A> {
 
     /// Ends the job that the seat has in hand.
     ///
-    /// The answer is the station's for the record at the seat's turn: who became ready by the entry, or
-    /// want of memory, which gives the job back and adds nothing. The call may wait as `take` does.
+    /// The answer is the station's for the record at the seat's turn: who became ready by the entry, and
+    /// the seat's hand is then empty; or want of memory, which gives the job back, still in the seat's
+    /// hand, and adds nothing. The call may wait as `take` does.
     pub fn commit<R: Wait>(&self, rt: &R, seat: &mut Seat, ran: Ran) -> Committed
         requires seat { IsSeatOf (about_of T.system T.plan) self.now seat.old }
         requires job { (ran.job.w ≡ seat.old.number) × IsInHand (T.system (given_to self.now)) (view seat.old).own.seen ran.job }
         ensures seat { IsSameSeat seat.old seat.new }
         ensures called { Called (count_committed result) (λ R Q. AnswersCommit (T.system (given_to self.now)) (T.plan (given_to self.now)) R ran result Q) (view seat.old) (view seat.new) }
         ensures legal { ∥ IsLegal (T.system (given_to self.now)).declarations (T.plan (given_to self.now)) (view seat.new).own.seen ∥₁ }
+        ensures hand { HasEnded (T.system (given_to self.now)) result seat.new }
     {
         let mut place = sit(&mut seat.badge);
         let mut station = self.enter(rt, &mut place);
@@ -128,13 +141,14 @@ impl<T: Station, A: Allocator> Exchange<T, A> {
     }
 
     /// Says what there is to do for a seat that found nothing, and moves the time where there is nothing
-    /// else. The answer is the station's for the record at the seat's turn. The call may wait as `take`
-    /// does.
+    /// else. The answer is the station's for the record at the seat's turn. What the seat has in hand
+    /// stays. The call may wait as `take` does.
     pub fn rest<R: Wait>(&self, rt: &R, seat: &mut Seat) -> Rest
         requires seat { IsSeatOf (about_of T.system T.plan) self.now seat.old }
         ensures seat { IsSameSeat seat.old seat.new }
         ensures called { Called (count_rest result) (λ R Q. AnswersRest (T.system (given_to self.now)).declarations (T.plan (given_to self.now)) R seat.old.number result Q) (view seat.old) (view seat.new) }
         ensures legal { ∥ IsLegal (T.system (given_to self.now)).declarations (T.plan (given_to self.now)) (view seat.new).own.seen ∥₁ }
+        ensures hand { job_of (view seat.new).own.seen seat.old.number ≡ job_of (view seat.old).own.seen seat.old.number }
     {
         let mut place = sit(&mut seat.badge);
         let mut station = self.enter(rt, &mut place);

@@ -20,6 +20,7 @@ returns-clause-job g c = let was = c.args.seat.now in let a = c.take-answer in l
     let i = its g.T.StandsFor.system g.T.StandsFor.plan g.T.StandsFor.history given c.enter-station.result (view was) c.sit-place.result.me.0 c.enter-station.new.place.me.0 (ap (λ m. m.0) c.sit-place.ensures.2) c.requires.seat.1 c.enter-station.ensures.took in
     has_job (g.T.StandsFor.system given) (g.T.StandsFor.plan given) was.number c.args.c a.result (g.T.StandsFor.history c.enter-station.result) (g.T.StandsFor.history a.new.self) _
     (subst (λ (p : System × Plan). AnswersTake p.0 p.1 (g.T.StandsFor.history c.enter-station.result) was.number c.args.c a.result (g.T.StandsFor.history a.new.self)) (λ k. (i.0 k, i.1 k)) a.ensures.answer)
+    (is_free g.T.StandsFor.system g.T.StandsFor.plan g.T.StandsFor.history given c.enter-station.result (view was) c.sit-place.result.me.0 c.enter-station.new.place.me.0 was.number (ap (λ m. m.0) c.sit-place.ensures.2) c.requires.seat.1 was.numbered c.enter-station.ensures.took c.requires.free)
     refl (ap (λ (v : View). v.own.seen) (ap sole c.into_badge.ensures.2 ∙ ap (λ m. m.0) c.leave.ensures.1))
 
 pub take-answer-requires : goal.take-answer-requires
