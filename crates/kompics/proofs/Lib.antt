@@ -1,3 +1,4 @@
+mod Crossing
 mod Ending
 mod Finding
 mod Promising

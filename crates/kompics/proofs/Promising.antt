@@ -1,19 +1,24 @@
--- What is kept of a simulation.
-use Rattle.std.proofs.Common.{◌≡◌, ◌∙◌, ap, ◌&&◌, ◌||◌, if◌then◌else◌, Bool, true, false, refl, sym}
+-- What is kept of a run.
+use Rattle.std.proofs.Common.{◌≡◌, ◌<◌, ◌∙◌, ap, ℕ, [], ◌&&◌, ◌||◌, if◌then◌else◌, Bool, true, false, refl, sym}
 use Rattle.std.specs.Prelude.{not, is_none}
+use Rattle.std.specs.List.{AllByRecursion}
+use Rattle.std.proofs.lemmas.List.{append-nil}
 use Rattle.std.proofs.Math.Logic.{∥∥₁_elim, ∥∥₁_map}
 use Rattle.std.proofs.Math.Bool.{Bool-set}
 use Rattle.kom_base.specs.Lists.{first}
 use Rattle.kom_lang.specs.Declarations.{Declarations}
+use Rattle.kom_system.specs.declared.system.System.{System}
 use Rattle.kom_system.specs.WellFormed.{IsDeclared}
 use Rattle.kom_record.specs.declared.plan.Plan.{Plan}
 use Rattle.kom_record.specs.Entries.{History, in_hand}
 use Rattle.kom_record.specs.Legal.{IsLegal}
+use Rattle.kom_record.specs.Views.{worker_of}
 use Rattle.kom_record.specs.Ready.{has_unhandled, is_closed, is_idle, is_finished, has_more}
-use Rattle.kom_record.specs.Simulated.{IsSimulated}
 use Rattle.kom_laws.specs.Laws.{EachInOrder, NumbersRise, DeadChannelsRest, ReceiptsAreHandedOver, StatesAreHandedOver, HandlingsAlternate, OutcomesAreReactions, FaultsReachTheNearest}
+use Rattle.kom_exchange.specs.declared.close.Shut.{Shut}
+use Rattle.kom_crew.specs.Crews.{IsDriven, IsEnded}
 use Rattle.kompics.specs.Promises.{Promises}
-use Rattle.kompics.specs.Runs.{IsRecordOf, status_of}
+use Rattle.kompics.specs.Runs.{Drive, simulated, by_workers, MayKeep, IsRecordOf, status_of}
 
 -- the laws of legal records, of one record
 pub promises : HandlingsAlternate → OutcomesAreReactions → EachInOrder → NumbersRise → DeadChannelsRest → FaultsReachTheNearest → StatesAreHandedOver → ReceiptsAreHandedOver
@@ -29,12 +34,20 @@ promises alternate react in_order rise dead faults states receipts S Z R d l = r
   receipts_go_over = receipts S Z R l;
 }
 
-pub legal_of : (S : Declarations) (Z : Plan) (R : History) → ∥ IsSimulated S Z R ∥₁ → ∥ IsLegal S Z R ∥₁
-legal_of S Z R h = ∥∥₁_map h (λ s. s.legal)
+legal_in : (drive : Drive) (S : Declarations) (Z : Plan) (R : History) → MayKeep drive S Z R → IsLegal S Z R
+legal_in simulated S Z R k = k.legal
+legal_in (by_workers n) S Z R k = k.legal
+
+finished_in : (drive : Drive) (S : Declarations) (Z : Plan) (R : History) → MayKeep drive S Z R → is_finished S Z R ≡ true
+finished_in simulated S Z R k = k.finished
+finished_in (by_workers n) S Z R k = k.finished
+
+pub legal_of : (drive : Drive) (S : Declarations) (Z : Plan) (R : History) → ∥ MayKeep drive S Z R ∥₁ → ∥ IsLegal S Z R ∥₁
+legal_of drive S Z R h = ∥∥₁_map h (λ k. legal_in drive S Z R k)
 
 pub record_of : ((S : Declarations) (Z : Plan) (R : History) → IsDeclared S → IsLegal S Z R → Promises S R)
-    → (S : Declarations) (Z : Plan) (R : History) → IsDeclared S → ∥ IsSimulated S Z R ∥₁ → IsRecordOf S Z R
-record_of law S Z R d h = record { simulated = h; promises = ∥∥₁_map h (λ s. law S Z R d s.legal) }
+    → (drive : Drive) (S : Declarations) (Z : Plan) (R : History) → IsDeclared S → ∥ MayKeep drive S Z R ∥₁ → IsRecordOf drive S Z R
+record_of law drive S Z R d h = record { kept = h; promises = ∥∥₁_map h (λ k. law S Z R d (legal_in drive S Z R k)) }
 
 -- where something is left to do, a finished record is closed
 closed_if_left : (hand closed idle : Bool) → (hand && (closed || idle)) ≡ true → (closed && not idle) ≡ not idle
@@ -47,11 +60,19 @@ is_closed_if_left : (S : Declarations) (Z : Plan) (R : History) → is_finished 
 unfolding is_finished has_more
 is_closed_if_left S Z R e = closed_if_left (is_none (first (in_hand R))) (is_closed S Z R) (is_idle S Z R) e
 
-finished_of : (S : Declarations) (Z : Plan) (R : History) → ∥ IsSimulated S Z R ∥₁ → is_finished S Z R ≡ true
-finished_of S Z R h = ∥∥₁_elim h (Bool-set (is_finished S Z R) true) (λ s. s.finished)
+finished_of : (drive : Drive) (S : Declarations) (Z : Plan) (R : History) → ∥ MayKeep drive S Z R ∥₁ → is_finished S Z R ≡ true
+finished_of drive S Z R h = ∥∥₁_elim h (Bool-set (is_finished S Z R) true) (λ k. finished_in drive S Z R k)
 
-pub status_is : (S : Declarations) (Z : Plan) (R : History) (unhandled more : Bool) → ∥ IsSimulated S Z R ∥₁ → unhandled ≡ has_unhandled S R → more ≡ has_more S Z R
+pub status_is : (drive : Drive) (S : Declarations) (Z : Plan) (R : History) (unhandled more : Bool) → ∥ MayKeep drive S Z R ∥₁ → unhandled ≡ has_unhandled S R → more ≡ has_more S Z R
     → (if unhandled then 3 else (if more then 4 else 0)) ≡ status_of S Z R
-status_is S Z R unhandled more h u m =
+status_is drive S Z R unhandled more h u m =
     ap (λ (b : Bool). if b then 3 else (if more then 4 else 0)) u
-    ∙ ap (λ (b : Bool). if has_unhandled S R then 3 else (if b then 4 else 0)) (m ∙ sym (is_closed_if_left S Z R (finished_of S Z R h)))
+    ∙ ap (λ (b : Bool). if has_unhandled S R then 3 else (if b then 4 else 0)) (m ∙ sym (is_closed_if_left S Z R (finished_of drive S Z R h)))
+
+-- the record of a crew whose run came to its end
+module _ {T : Type 0} (system : T → System) (plan : T → Plan) (history : T → History) (given : T) (n : ℕ) (empty : history given ≡ []) where
+  all_by : (t : T) → IsDriven system plan history given n t → AllByRecursion (λ e. worker_of e < n) (history t)
+  all_by t d = rw (d.added.1, empty, append-nil) d.added.2
+
+  pub crew_keeps : (shut : Shut T) → IsEnded system plan history given n shut → ∥ MayKeep (by_workers n) (system given).declarations (plan given) (history shut.station) ∥₁
+  crew_keeps shut e = ∥∥₁_map e.driven.legal (λ l. record { legal = l; finished = e.finished; workers = all_by shut.station e.driven })

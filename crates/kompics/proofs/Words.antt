@@ -3,7 +3,7 @@ use Rattle.std.proofs.Common.{◌≡◌, ◌≢◌, ◌≤◌, ◌⊎◌, ◌∙
 use Rattle.std.specs.Prelude.{slice_get, codes, decimal}
 use Rattle.kompics.specs.declared.command.Form.{Form}
 use Rattle.kompics.specs.declared.command.Form.TheVariants.{AsItIs, Upgraded}
-use Rattle.kompics.specs.Words.{print, sim, IsNoCommand}
+use Rattle.kompics.specs.Words.{print, sim, IsNoCommand, IsNoRun}
 
 -- a list of three
 pub three : {X : Type 0} (xs : List X) (a b c : X) → length xs ≡ 3 → slice_get xs 0 ≡ Some a → slice_get xs 1 ≡ Some b → slice_get xs 2 ≡ Some c → xs ≡ a ∷ b ∷ c ∷ []
@@ -12,6 +12,16 @@ three (x ∷ []) a b c n p q r = absurd (cc)
 three (x ∷ y ∷ []) a b c n p q r = absurd (cc)
 three (x ∷ y ∷ z ∷ []) a b c n p q r = cc
 three (x ∷ y ∷ z ∷ w ∷ xs) a b c n p q r = absurd (omega arith)
+
+-- a list of four
+pub four : {X : Type 0} (xs : List X) (a b c d : X) → length xs ≡ 4 → slice_get xs 0 ≡ Some a → slice_get xs 1 ≡ Some b → slice_get xs 2 ≡ Some c → slice_get xs 3 ≡ Some d
+    → xs ≡ a ∷ b ∷ c ∷ d ∷ []
+four [] a b c d n p q r s = absurd (cc)
+four (x ∷ []) a b c d n p q r s = absurd (cc)
+four (x ∷ y ∷ []) a b c d n p q r s = absurd (cc)
+four (x ∷ y ∷ z ∷ []) a b c d n p q r s = absurd (cc)
+four (x ∷ y ∷ z ∷ w ∷ []) a b c d n p q r s = cc
+four (x ∷ y ∷ z ∷ w ∷ v ∷ xs) a b c d n p q r s = absurd (omega arith)
 
 -- a list of two
 pub two : {X : Type 0} (xs : List X) (a b : X) → length xs ≡ 2 → slice_get xs 0 ≡ Some a → slice_get xs 1 ≡ Some b → xs ≡ a ∷ b ∷ []
@@ -119,3 +129,17 @@ no_text b c f g = record {
   no_scenario = λ n some most h. g (third_is _ _ c _ _ _ h);
   no_drill = λ n some most h. no_two (codes "make") b c _ _ h;
 }
+
+-- ---- words that are no run with workers
+
+fourth_is : (a b c d x y z w : List ℕ) → a ∷ b ∷ c ∷ d ∷ [] ≡ x ∷ y ∷ z ∷ w ∷ [] → d ≡ w
+fourth_is a b c d x y z w e = cc
+
+pub not_four : (words : List (List ℕ)) → length words ≢ 4 → IsNoRun words
+not_four words e = λ s z n some most h. e (ap length h)
+
+pub no_run : (a b c d : List ℕ) → a ≢ codes "run" → IsNoRun (a ∷ b ∷ c ∷ d ∷ [])
+no_run a b c d f = λ s z n some most h. f (head_is a _ _ _ h)
+
+pub no_workers : (b c d : List ℕ) → ((n : ℕ) → 1 ≤ n → n ≤ 64 → d ≢ decimal n) → IsNoRun (codes "run" ∷ b ∷ c ∷ d ∷ [])
+no_workers b c d f = λ s z n some most h. f n some most (fourth_is _ _ _ d _ _ _ _ h)

@@ -1,18 +1,21 @@
-ghost use Rattle.std.specs.Prelude.{◌≡◌, ◌≤◌, ℕ, List, Option, MatchResult, codes};
+ghost use Rattle.std.specs.Prelude.{◌≡◌, ◌≤◌, ℕ, Bool, true, false, List, Option, MatchResult, codes};
 ghost use Rattle.kom_record.specs.Plans.{PlanFits};
-ghost use Rattle.kompics.specs.Words.{print, sim, make, drill};
-ghost use Rattle.kompics.specs.Top.{IsAnswer};
-ghost use Rattle.kompics.specs.Found.{Refuses, IsNoSystem, IsNoPlan, IsText, IsOfRun};
+ghost use Rattle.kompics.specs.Words.{print, sim, run, make, drill};
+ghost use Rattle.kompics.specs.Runs.{Drive, simulated, by_workers};
+ghost use Rattle.kompics.specs.Top.{IsAnswer, AsksFiles};
+ghost use Rattle.kompics.specs.Found.{Refuses, IsNoSystem, IsNoPlan, IsText, AreOf, IsOfRun};
 
-use crate::command::{Command, Form, command_of};
-use crate::running::{Run, run_system};
+use crate::command::{Command, Crewed, Form, command_of, run_of};
+use crate::running::{Run, run_system, run_with_workers};
 use kom_io::{Shelf, Words};
 use kom_loading::{Loaded, Planned, load_scenario, load_system, plan_of, refusal_line, system_of};
 use kom_make::{SCENARIO, SYSTEM, make_scenario, make_system};
-use kom_record::Plan;
+use kom_record::{Gate, Plan};
 use kom_sysprint::print_system;
 use kom_system::System;
 use std::alloc::Global;
+use std::sync::Wait;
+use std::thread::Threads;
 
 /// What the words come to, before anything is written.
 #[derive(Drop)]
@@ -31,10 +34,29 @@ pub enum Answer {
     Memory,
 }
 
-/// Does what the words say, but for the writing.
+/// Does what the words say, but for the writing; where they ask for a run with workers, these handle
+/// by turns through the gate.
+#[tactic(auto, using(crate::proofs::Finding::not_working))]
+pub fn answer_with<R: Threads + Wait + Sync, S: Shelf, G: Gate + Sync>(
+    rt: &R,
+    alloc: Global,
+    words: &Words,
+    shelf: &mut S,
+    gate: &G,
+) -> Answer
+    ensures { IsAnswer true SYSTEM.now SCENARIO.now words.now (S.file shelf.old) result (S.count shelf.old) (S.count shelf.new) }
+{
+    match run_of(words) {
+        Some(asked) => answer_workers(rt, alloc, shelf, &asked, gate),
+        None => answer_to(alloc, words, shelf),
+    }
+}
+
+/// Does what the words say without workers, but for the writing; to it the words of a run with
+/// workers are no command.
 #[tactic(auto, using(crate::proofs::Finding::unknown))]
 pub fn answer_to<S: Shelf>(alloc: Global, words: &Words, shelf: &mut S) -> Answer
-    ensures { IsAnswer SYSTEM.now SCENARIO.now words.now (S.file shelf.old) result (S.count shelf.old) (S.count shelf.new) }
+    ensures { IsAnswer false SYSTEM.now SCENARIO.now words.now (S.file shelf.old) result (S.count shelf.old) (S.count shelf.new) }
 {
     match command_of(words) {
         Some(Command::Print { form, system }) => answer_print(alloc, shelf, form, system),
@@ -50,7 +72,7 @@ pub fn answer_to<S: Shelf>(alloc: Global, words: &Words, shelf: &mut S) -> Answe
 fn answer_system(alloc: Global, n: u32) -> Answer
     requires some { 1 ≤ n }
     requires most { n ≤ 30 }
-    ensures { (words : List (List ℕ)) (files : List ℕ → Option (List ℕ)) (before after : List ℕ → ℕ) → words ≡ make n (codes "system") → IsAnswer SYSTEM.now SCENARIO.now words files result before after }
+    ensures { (has_workers : Bool) (words : List (List ℕ)) (files : List ℕ → Option (List ℕ)) (before after : List ℕ → ℕ) → words ≡ make n (codes "system") → IsAnswer has_workers SYSTEM.now SCENARIO.now words files result before after }
 {
     match make_system(alloc, n) {
         Ok(text) => Answer::Text(text),
@@ -62,7 +84,7 @@ fn answer_system(alloc: Global, n: u32) -> Answer
 fn answer_scenario(alloc: Global, n: u32) -> Answer
     requires some { 1 ≤ n }
     requires most { n ≤ 30 }
-    ensures { (words : List (List ℕ)) (files : List ℕ → Option (List ℕ)) (before after : List ℕ → ℕ) → words ≡ make n (codes "scenario") → IsAnswer SYSTEM.now SCENARIO.now words files result before after }
+    ensures { (has_workers : Bool) (words : List (List ℕ)) (files : List ℕ → Option (List ℕ)) (before after : List ℕ → ℕ) → words ≡ make n (codes "scenario") → IsAnswer has_workers SYSTEM.now SCENARIO.now words files result before after }
 {
     match make_scenario(alloc, n) {
         Ok(text) => Answer::Text(text),
@@ -110,7 +132,7 @@ fn planned(alloc: Global, found: Planned) -> Result<Plan, Answer>
 
 /// What the file of a command that writes its system comes to.
 fn answer_print<S: Shelf>(alloc: Global, shelf: &mut S, form: Form, name: &str) -> Answer
-    ensures { (words : List (List ℕ)) → words ≡ print form name.now → IsAnswer SYSTEM.now SCENARIO.now words (S.file shelf.old) result (S.count shelf.old) (S.count shelf.new) }
+    ensures { (has_workers : Bool) (words : List (List ℕ)) → words ≡ print form name.now → IsAnswer has_workers SYSTEM.now SCENARIO.now words (S.file shelf.old) result (S.count shelf.old) (S.count shelf.new) }
 {
     match accepted(alloc, load_system(alloc, shelf, name)) {
         Ok(system) => printed(alloc, form, system),
@@ -132,6 +154,26 @@ fn printed(alloc: Global, form: Form, system: System) -> Answer
     }
 }
 
+/// The system of one file and the plan of another, or else the answer.
+fn load_both<S: Shelf>(
+    alloc: Global,
+    shelf: &mut S,
+    system_name: &str,
+    scenario_name: &str,
+) -> Result<(System, Plan), Answer>
+    ensures { MatchResult result (λ found. AreOf (S.file shelf.old system_name.now) (S.file shelf.old scenario_name.now) found.0 found.1) (λ answer. (has_workers : Bool) (words : List (List ℕ)) (drive : Drive) → AsksFiles has_workers words drive system_name.now scenario_name.now → IsAnswer has_workers SYSTEM.now SCENARIO.now words (S.file shelf.old) answer (S.count shelf.old) (S.count shelf.new)) }
+{
+    let system = match accepted(alloc, load_system(alloc, shelf, system_name)) {
+        Ok(system) => system,
+        Err(answer) => return Err(answer),
+    };
+    let found = load_scenario(alloc, shelf, scenario_name, &system);
+    match planned(alloc, found) {
+        Ok(plan) => Ok((system, plan)),
+        Err(answer) => Err(answer),
+    }
+}
+
 /// What the two files of the command `sim` come to.
 fn answer_sim<S: Shelf>(
     alloc: Global,
@@ -139,16 +181,47 @@ fn answer_sim<S: Shelf>(
     system_name: &str,
     scenario_name: &str,
 ) -> Answer
-    ensures { (words : List (List ℕ)) → words ≡ sim system_name.now scenario_name.now → IsAnswer SYSTEM.now SCENARIO.now words (S.file shelf.old) result (S.count shelf.old) (S.count shelf.new) }
+    ensures { (has_workers : Bool) (words : List (List ℕ)) → words ≡ sim system_name.now scenario_name.now → IsAnswer has_workers SYSTEM.now SCENARIO.now words (S.file shelf.old) result (S.count shelf.old) (S.count shelf.new) }
 {
-    let system = match accepted(alloc, load_system(alloc, shelf, system_name)) {
-        Ok(system) => system,
-        Err(answer) => return answer,
-    };
-    let found = load_scenario(alloc, shelf, scenario_name, &system);
-    match planned(alloc, found) {
-        Ok(plan) => answer_run(alloc, system, plan, false),
+    match load_both(alloc, shelf, system_name, scenario_name) {
+        Ok((system, plan)) => answer_run(alloc, system, plan, false),
         Err(answer) => answer,
+    }
+}
+
+/// What the two files of a run with workers come to.
+fn answer_workers<R: Threads + Wait + Sync, S: Shelf, G: Gate + Sync>(
+    rt: &R,
+    alloc: Global,
+    shelf: &mut S,
+    asked: &Crewed<'_>,
+    gate: &G,
+) -> Answer
+    requires { (1 ≤ asked.now.workers) × (asked.now.workers ≤ 64) }
+    ensures { (words : List (List ℕ)) → words ≡ run asked.now.system.now asked.now.scenario.now asked.now.workers → IsAnswer true SYSTEM.now SCENARIO.now words (S.file shelf.old) result (S.count shelf.old) (S.count shelf.new) }
+{
+    match load_both(alloc, shelf, asked.system, asked.scenario) {
+        Ok((system, plan)) => crewed(rt, alloc, system, plan, asked.workers, gate),
+        Err(answer) => answer,
+    }
+}
+
+/// The answer of a system and a plan that fits it, which workers run.
+fn crewed<R: Threads + Wait + Sync, G: Gate + Sync>(
+    rt: &R,
+    alloc: Global,
+    system: System,
+    plan: Plan,
+    workers: u32,
+    gate: &G,
+) -> Answer
+    requires plan { PlanFits system.declarations plan }
+    requires workers { (1 ≤ workers) × (workers ≤ 64) }
+    ensures { IsOfRun (by_workers workers) system plan false result }
+{
+    match run_with_workers(rt, alloc, system, plan, workers, gate) {
+        Ok(run) => Answer::Run(run),
+        Err(_) => Answer::Memory,
     }
 }
 
@@ -156,7 +229,7 @@ fn answer_sim<S: Shelf>(
 fn answer_drill(alloc: Global, n: u32) -> Answer
     requires some { 1 ≤ n }
     requires most { n ≤ 30 }
-    ensures { (words : List (List ℕ)) (files : List ℕ → Option (List ℕ)) (before after : List ℕ → ℕ) → words ≡ drill n → IsAnswer SYSTEM.now SCENARIO.now words files result before after }
+    ensures { (has_workers : Bool) (words : List (List ℕ)) (files : List ℕ → Option (List ℕ)) (before after : List ℕ → ℕ) → words ≡ drill n → IsAnswer has_workers SYSTEM.now SCENARIO.now words files result before after }
 {
     let Ok(text) = make_system(alloc, n) else {
         return Answer::Memory;
@@ -178,7 +251,7 @@ fn answer_drill(alloc: Global, n: u32) -> Answer
 /// The answer of a system and a plan that fits it.
 fn answer_run(alloc: Global, system: System, plan: Plan, brief: bool) -> Answer
     requires { PlanFits system.declarations plan }
-    ensures { IsOfRun system plan brief result }
+    ensures { IsOfRun simulated system plan brief result }
 {
     match run_system(alloc, system, plan, brief) {
         Ok(run) => Answer::Run(run),

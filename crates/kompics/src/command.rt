@@ -1,5 +1,5 @@
 ghost use Rattle.std.specs.Prelude.{◌≡◌, ◌≢◌, ◌≤◌, ◌↔◌, ℕ, [], ◌∷◌, codes, decimal, IsTrue, MatchOption};
-ghost use Rattle.kompics.specs.Words.{IsNoCommand, IsCommand};
+ghost use Rattle.kompics.specs.Words.{IsNoCommand, IsNoRun, IsCommand, IsCrewed};
 
 use itoa::Buffer;
 use kom_io::Words;
@@ -13,7 +13,7 @@ pub enum Form {
     Upgraded,
 }
 
-/// What the words ask for.
+/// What the words ask for that needs no workers.
 #[derive(Clone, Copy, Debug)]
 pub enum Command<'w> {
     /// Writes the canonical text of the system of a file.
@@ -28,6 +28,15 @@ pub enum Command<'w> {
     Drill(u32),
 }
 
+/// A run that the words ask for: of the system of one file under the scenario of another, with 1 to
+/// 64 workers.
+#[derive(Clone, Copy, Debug)]
+pub struct Crewed<'w> {
+    pub system: &'w str,
+    pub scenario: &'w str,
+    pub workers: u32,
+}
+
 fn is_number(word: &str, n: u32) -> bool
     ensures { IsTrue result ↔ (word.now ≡ decimal n) }
 {
@@ -35,11 +44,12 @@ fn is_number(word: &str, n: u32) -> bool
     word == buffer.format(n)
 }
 
-/// The number from 1 to 30 that a word is, without leading zeros.
-fn number_of(word: &str) -> Option<u32>
-    ensures { MatchOption result ((n : ℕ) → 1 ≤ n → n ≤ 30 → word.now ≢ decimal n) (λ n. (1 ≤ n) × (n ≤ 30) × (word.now ≡ decimal n)) }
+/// The number from 1 up to a greatest one that a word is, without leading zeros.
+fn number_of(word: &str, most: u32) -> Option<u32>
+    requires { most ≤ 64 }
+    ensures { MatchOption result ((n : ℕ) → 1 ≤ n → n ≤ most → word.now ≢ decimal n) (λ n. (1 ≤ n) × (n ≤ most) × (word.now ≡ decimal n)) }
 {
-    for n in 1..31 {
+    for n in 1..most + 1 {
         if is_number(word, n) {
             return Some(n);
         }
@@ -52,7 +62,7 @@ fn number_of(word: &str) -> Option<u32>
 fn making<'w>(number: &'w str, what: &'w str) -> Option<Command<'w>>
     ensures { MatchOption result (IsNoCommand (codes "make" ∷ number.now ∷ what.now ∷ [])) (λ c. IsCommand c (codes "make" ∷ number.now ∷ what.now ∷ [])) }
 {
-    let n = number_of(number)?;
+    let n = number_of(number, 30)?;
     if what == "system" {
         return Some(Command::MakeSystem(n));
     }
@@ -67,7 +77,7 @@ fn making<'w>(number: &'w str, what: &'w str) -> Option<Command<'w>>
 fn drilling<'w>(number: &'w str) -> Option<Command<'w>>
     ensures { MatchOption result (IsNoCommand (codes "drill" ∷ number.now ∷ [])) (λ c. IsCommand c (codes "drill" ∷ number.now ∷ [])) }
 {
-    let n = number_of(number)?;
+    let n = number_of(number, 30)?;
     Some(Command::Drill(n))
 }
 
@@ -111,7 +121,52 @@ fn of_three<'w>(first: &'w str, second: &'w str, third: &'w str) -> Option<Comma
     None
 }
 
-/// The command that the words are.
+/// The run with workers of words that begin with `run`.
+#[tactic(auto, using(crate::proofs::Words::no_workers))]
+fn working<'w>(system: &'w str, scenario: &'w str, number: &'w str) -> Option<Crewed<'w>>
+    ensures { MatchOption result (IsNoRun (codes "run" ∷ system.now ∷ scenario.now ∷ number.now ∷ [])) (λ r. IsCrewed r (codes "run" ∷ system.now ∷ scenario.now ∷ number.now ∷ [])) }
+{
+    let workers = number_of(number, 64)?;
+    Some(Crewed {
+        system,
+        scenario,
+        workers,
+    })
+}
+
+/// The run with workers of four words.
+#[tactic(auto, using(crate::proofs::Words::no_run))]
+fn of_four<'w>(
+    first: &'w str,
+    second: &'w str,
+    third: &'w str,
+    fourth: &'w str,
+) -> Option<Crewed<'w>>
+    ensures { MatchOption result (IsNoRun (first.now ∷ second.now ∷ third.now ∷ fourth.now ∷ [])) (λ r. IsCrewed r (first.now ∷ second.now ∷ third.now ∷ fourth.now ∷ [])) }
+{
+    if first == "run" {
+        return working(second, third, fourth);
+    }
+    None
+}
+
+/// The run with workers that the words ask for.
+#[tactic(auto, using(crate::proofs::Words::not_four, crate::proofs::Words::four))]
+pub fn run_of(words: &Words) -> Option<Crewed<'_>>
+    ensures { MatchOption result (IsNoRun words.now) (λ r. IsCrewed r words.now) }
+{
+    if words.len() != 4 {
+        return None;
+    }
+    match (words.at(0), words.at(1), words.at(2), words.at(3)) {
+        (Some(first), Some(second), Some(third), Some(fourth)) => {
+            of_four(first, second, third, fourth)
+        }
+        _ => None,
+    }
+}
+
+/// The command without workers that the words are.
 #[tactic(auto, using(crate::proofs::Words::of_another_length, crate::proofs::Words::two, crate::proofs::Words::three))]
 pub fn command_of(words: &Words) -> Option<Command<'_>>
     ensures { MatchOption result (IsNoCommand words.now) (λ c. IsCommand c words.now) }

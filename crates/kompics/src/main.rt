@@ -9,12 +9,13 @@ mod tests;
 mod top;
 
 use kom_io::{FileShelf, OutSink, Words};
+use kom_record::NoGate;
 use std::alloc::AllocError;
 use std::env;
 use std::io::ErrorKind;
 use std::process::ExitCode;
 use std::rt::Env;
-use top::quiet_top;
+use top::kompics_top;
 
 fn main(rt: HostRuntime) -> ExitCode {
     let Ok(words) = words_of(&rt) else {
@@ -24,7 +25,7 @@ fn main(rt: HostRuntime) -> ExitCode {
         return ExitCode::from(7);
     };
     let mut out = OutSink::new(&rt);
-    let end = quiet_top(rt.alloc(), &words, &mut shelf, &mut out);
+    let end = kompics_top(&rt, rt.alloc(), &words, &mut shelf, &mut out, &NoGate);
     ExitCode::from(end.status)
 }
 

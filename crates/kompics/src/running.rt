@@ -1,4 +1,4 @@
-ghost use Rattle.std.specs.Prelude.{◌≡◌, ◌+◌, ℕ, [], if◌then◌else◌, IfOk};
+ghost use Rattle.std.specs.Prelude.{◌≡◌, ◌≤◌, ◌+◌, ℕ, false, [], if◌then◌else◌, IfOk};
 ghost use Rattle.std.specs.Arc.{arc_value};
 ghost use Rattle.kom_lang.specs.Declarations.{Declarations};
 ghost use Rattle.kom_system.specs.WellFormed.{IsDeclared};
@@ -7,23 +7,25 @@ ghost use Rattle.kom_record.specs.Entries.{History};
 ghost use Rattle.kom_record.specs.Legal.{IsLegal};
 ghost use Rattle.kom_record.specs.Plans.{PlanFits};
 ghost use Rattle.kom_record.specs.Ready.{ready_list};
-ghost use Rattle.kom_record.specs.Simulated.{IsSimulated};
+ghost use Rattle.kom_trace.specs.Counting.{IsTallyOf};
 ghost use Rattle.kompics.specs.Promises.{Promises};
-ghost use Rattle.kompics.specs.Runs.{IsRan};
+ghost use Rattle.kompics.specs.Runs.{Drive, simulated, by_workers, MayKeep, IsRan};
 
 use kom_base::Copied;
 use kom_core::{Begun, Core};
-use kom_record::{Plan, Record, Station, Tally, Wakes};
+use kom_crew::{Crewed, run_crew};
+use kom_record::{Gate, Plan, Record, Station, Tally, Wakes};
 use kom_sim::{Simulated, simulate};
 use kom_system::System;
 use kom_trace::count_all;
 use std::alloc::{AllocError, Global};
-use std::sync::Arc;
+use std::sync::{Arc, Wait};
+use std::thread::Threads;
 
 /// What is kept of a run that came to its end.
 #[derive(Drop)]
 pub struct Ran {
-    /// The record of the simulation.
+    /// The record.
     pub kept: Record,
     /// What the record leaves.
     pub tally: Tally,
@@ -40,6 +42,37 @@ pub struct Run {
     /// Whether only the two last lines of the trace are asked for.
     pub brief: bool,
     pub ran: Ran,
+    ghost legal: { ∥ IsLegal (arc_value system).declarations plan ran.kept.history ∥₁ },
+    ghost tallied: { IsTallyOf (arc_value system).declarations plan ran.kept.history ran.tally },
+}
+
+/// Runs a system under a plan that fits it with so many workers, which handle by turns through the
+/// gate. The error is want of memory.
+pub fn run_with_workers<R: Threads + Wait + Sync, G: Gate + Sync>(
+    rt: &R,
+    alloc: Global,
+    system: System,
+    plan: Plan,
+    workers: u32,
+    gate: &G,
+) -> Result<Run, AllocError>
+    requires plan { PlanFits system.declarations plan }
+    requires workers { (1 ≤ workers) × (workers ≤ 64) }
+    ensures system { IfOk result (λ run. arc_value run.system ≡ system) }
+    ensures plan { IfOk result (λ run. run.plan ≡ plan) }
+    ensures brief { IfOk result (λ run. run.brief ≡ false) }
+    ensures ran { IfOk result (λ run. IsRan (by_workers workers) system.declarations plan run.ran) }
+{
+    system.well_formed();
+    let system = Arc::new(alloc, system)?;
+    let Begun { core, wakes } = Core::begin(alloc, Arc::try_clone(&system)?, plan.copy(alloc)?)?;
+    let ran = crew(rt, alloc, core, wakes, workers, gate)?;
+    Ok(Run {
+        system,
+        plan,
+        brief: false,
+        ran,
+    })
 }
 
 /// Simulates a system under a plan that fits it. The error is want of memory.
@@ -48,7 +81,7 @@ pub fn run_system(alloc: Global, system: System, plan: Plan, brief: bool) -> Res
     ensures system { IfOk result (λ run. arc_value run.system ≡ system) }
     ensures plan { IfOk result (λ run. run.plan ≡ plan) }
     ensures brief { IfOk result (λ run. run.brief ≡ brief) }
-    ensures ran { IfOk result (λ run. IsRan system.declarations plan run.ran) }
+    ensures ran { IfOk result (λ run. IsRan simulated system.declarations plan run.ran) }
 {
     let system = Arc::new(alloc, system)?;
     let ran = begin(alloc, Arc::try_clone(&system)?, plan.copy(alloc)?)?;
@@ -63,7 +96,7 @@ pub fn run_system(alloc: Global, system: System, plan: Plan, brief: bool) -> Res
 /// Begins a run, and simulates it.
 fn begin(alloc: Global, system: Arc<System, Global>, plan: Plan) -> Result<Ran, AllocError>
     requires { PlanFits (arc_value system).declarations plan }
-    ensures { IfOk result (λ ran. IsRan (arc_value system).declarations plan ran) }
+    ensures { IfOk result (λ ran. IsRan simulated (arc_value system).declarations plan ran) }
 {
     system.well_formed();
     let Begun { core, wakes } = Core::begin(alloc, system, plan)?;
@@ -75,7 +108,7 @@ fn simulate_all<T: Station>(alloc: Global, station: T, wakes: Wakes) -> Result<R
     requires declared { IsDeclared (T.system station).declarations }
     requires empty { T.history station ≡ [] }
     requires ready { wakes ≡ ready_list (T.system station).declarations (T.plan station) [] }
-    ensures { IfOk result (λ ran. IsRan (T.system station).declarations (T.plan station) ran) }
+    ensures { IfOk result (λ ran. IsRan simulated (T.system station).declarations (T.plan station) ran) }
 {
     match simulate(alloc, station, wakes) {
         Simulated::Ended(station) => ended(alloc, station),
@@ -86,11 +119,33 @@ fn simulate_all<T: Station>(alloc: Global, station: T, wakes: Wakes) -> Result<R
     }
 }
 
-/// What is kept of a station that stands for the record of the simulation.
+/// Runs the system of a station that stands for the empty record, with so many workers.
+fn crew<R: Threads + Wait + Sync, T: Station + Send, G: Gate + Sync>(
+    rt: &R,
+    alloc: Global,
+    station: T,
+    wakes: Wakes,
+    workers: u32,
+    gate: &G,
+) -> Result<Ran, AllocError>
+    requires declared { IsDeclared (T.system station).declarations }
+    requires empty { T.history station ≡ [] }
+    requires workers { (1 ≤ workers) × (workers ≤ 64) }
+    ensures { IfOk result (λ ran. IsRan (by_workers workers) (T.system station).declarations (T.plan station) ran) }
+{
+    match run_crew(rt, alloc, station, wakes, workers, gate) {
+        Crewed::Ended(shut) => ended(alloc, shut.into_station()),
+        Crewed::Memory(station) => {
+            station.into_kept();
+            Err(AllocError)
+        }
+    }
+}
+
+/// What is kept of a station whose run came to its end, however it was driven.
 fn ended<T: Station>(alloc: Global, station: T) -> Result<Ran, AllocError>
     requires declared { IsDeclared (T.system station).declarations }
-    requires simulated { ∥ IsSimulated (T.system station).declarations (T.plan station) (T.history station) ∥₁ }
-    ensures { IfOk result (λ ran. IsRan (T.system station).declarations (T.plan station) ran) }
+    ensures { (drive : Drive) → ∥ MayKeep drive (T.system station).declarations (T.plan station) (T.history station) ∥₁ → IfOk result (λ ran. IsRan drive (T.system station).declarations (T.plan station) ran) }
 {
     records_promise();
     let tally = station.tally();

@@ -1,8 +1,11 @@
 mod outside;
+mod together;
 
 use kom_make::{make_scenario, make_system};
-use outside::{Outside, PLAIN, call};
+use kom_record::NoGate;
+use outside::{Outside, PLAIN, call, call_with_workers};
 use std::test::Fail;
+use together::Together;
 
 const SYSTEM: &str = "system 1;\ncomponent Main { }\nroot Main();\n";
 
@@ -10,6 +13,9 @@ const SINGLE: &str =
     "system 1;\nevent N(n);\nport P { plus N; minus N; }\ncomponent Main {\n  provides p : P;\n  var got = 0;\n  on N at p as h { got = it.n; trigger N(got) at p; }\n}\nroot Main();\n";
 
 const FAULTY: &str = "system 1;\ncomponent Main { on start as h { fail 7; } }\nroot Main();\n";
+
+const TWO_LEAVES: &str =
+    "system 1;\nevent N(n);\nport P { plus N; }\ncomponent Leaf { requires p : P; var got = 0; on N at p as h { got = got + it.n; } }\ncomponent Main {\n  requires p : P;\n  slot a : Leaf();\n  slot b : Leaf();\n  channel k : P from self.p to a.p plus when N.n == 1;\n  channel l : P from self.p to b.p plus when N.n >= 1;\n}\nroot Main();\n";
 
 const TWO_EVENTS: &str = "scenario 1; at 5 raise N(7) at p; at 5 raise N(-8) at p;";
 
@@ -21,8 +27,10 @@ const SCENARIO: &str = "scenario 1;";
 const TRACE: &str =
     "trace 1\n0 0 took 0 start\n1 0 did 0 done active\nend quiet\ntook 1 did 1 moved 0 queued 0 out 0\n";
 
+const END: &str = "end quiet\ntook 1 did 1 moved 0 queued 0 out 0\n";
+
 const USAGE: &str =
-    "usage: kompics check S | sim S Z | make N system|scenario | drill N | upgrade S\n";
+    "usage: kompics check S | sim S Z | run S Z WORKERS | make N system|scenario | drill N | upgrade S\n";
 
 const SIM: [&str; 3] = ["sim", "s", "z"];
 
@@ -195,6 +203,8 @@ fn refuses_a_file_over_the_limit(rt: HostRuntime) -> Result<(), Fail> {
 fn answers_words_that_are_no_command(rt: HostRuntime) -> Result<(), Fail> {
     for words in [
         ["run", "s", "z"].as_slice(),
+        ["run", "s", "z", "2"].as_slice(),
+        ["sim", "s", "z", "2", "3"].as_slice(),
         ["sim", "s"].as_slice(),
         ["checks", "s"].as_slice(),
         ["drill", "0"].as_slice(),
@@ -216,6 +226,82 @@ fn answers_words_that_are_no_command(rt: HostRuntime) -> Result<(), Fail> {
         assert_eq!(rt; status, 2);
         assert_eq!(rt; out.as_slice(), USAGE.as_bytes());
     }
+    Ok(())
+}
+
+#[test]
+fn takes_a_number_of_workers_from_1_to_64(rt: HostRuntime) -> Result<(), Fail> {
+    for (words, status) in [
+        (["run", "s", "z", "1"].as_slice(), 0),
+        (["run", "s", "z", "64"].as_slice(), 0),
+        (["sim", "s", "z"].as_slice(), 0),
+        (["run", "s", "z", "0"].as_slice(), 2),
+        (["run", "s", "z", "65"].as_slice(), 2),
+        (["run", "s", "z", "02"].as_slice(), 2),
+        (["run", "s", "z"].as_slice(), 2),
+        (["run", "s", "z", "2", "3"].as_slice(), 2),
+        (["runs", "s", "z", "2"].as_slice(), 2),
+        (["run", "x", "z", "2"].as_slice(), 5),
+        (["run", "z", "s", "2"].as_slice(), 1),
+    ] {
+        let (got, out) = call_with_workers(
+            &rt,
+            rt.alloc(),
+            words,
+            SYSTEM.as_bytes(),
+            SCENARIO.as_bytes(),
+            &NoGate,
+        )?;
+        assert_eq!(rt; got, status);
+        match status {
+            0 => assert!(rt; out.as_slice().ends_with(END.as_bytes())),
+            1 => assert_eq!(rt;
+                out.as_slice(),
+                b"refused system rule 4 at 1:1\n".as_slice()
+            ),
+            2 => assert_eq!(rt; out.as_slice(), USAGE.as_bytes()),
+            _ => assert_eq!(rt; out.len(), 0),
+        }
+    }
+    Ok(())
+}
+
+#[test]
+fn two_workers_handle_at_once(rt: HostRuntime) -> Result<(), Fail> {
+    let gate = Together::new();
+    let (status, out) = call_with_workers(
+        &rt,
+        rt.alloc(),
+        &["run", "s", "z", "2"],
+        TWO_LEAVES.as_bytes(),
+        SCENARIO.as_bytes(),
+        &gate,
+    )?;
+    assert_eq!(rt; status, 0);
+    assert!(rt; !gate.gave_up());
+    assert!(rt;
+        out.as_slice()
+            .ends_with(b"took 3 did 3 moved 0 queued 0 out 0\n")
+    );
+    Ok(())
+}
+
+#[test]
+fn workers_do_all_that_a_simulation_does(rt: HostRuntime) -> Result<(), Fail> {
+    let system = make_system(rt.alloc(), 1)?;
+    let scenario = make_scenario(rt.alloc(), 1)?;
+    let (status, out) = call_with_workers(
+        &rt,
+        rt.alloc(),
+        &["run", "s", "z", "8"],
+        system.as_slice(),
+        scenario.as_slice(),
+        &NoGate,
+    )?;
+    assert_eq!(rt; status, 0);
+    assert!(rt;
+        out.as_slice().ends_with(b"end quiet\ntook 2247 did 2247 moved 100 queued 0 out 0\n")
+    );
     Ok(())
 }
 

@@ -1,23 +1,21 @@
-ghost use Rattle.std.specs.Prelude.{◌≡◌, ◌≤◌, ◌==◌, ◌⊎◌, ℕ, List, [], ◌∷◌, Some, None, IsTrue};
-ghost use Rattle.std.specs.List.{list_any};
+ghost use Rattle.std.specs.Prelude.{◌≡◌, ℕ, Bool, true, false, List, Option, Some, None};
 ghost use Rattle.std.specs.Arc.{arc_value};
-ghost use Rattle.kom_io.specs.Faults.{Rose};
-ghost use Rattle.kom_io.specs.Texts.{AddsPrefix};
 ghost use Rattle.kom_trace.specs.Seen.{written_of};
-ghost use Rattle.kompics.specs.Runs.{IsRan};
-ghost use Rattle.kompics.specs.Top.{Ends, Stops, Adds, IsWritten};
+ghost use Rattle.kompics.specs.Top.{IsAnswer, IsEnd, IsWritten};
 
-use crate::answer::{Answer, answer_to};
+use crate::answer::{Answer, answer_to, answer_with};
 use crate::running::Run;
 use kom_io::{Shelf, Sink, Words, Written, write_all_of};
 use kom_make::{SCENARIO, SYSTEM};
-use kom_record::Record;
+use kom_record::{Gate, Record};
 use kom_trace::{Traced, write_trace};
 use std::alloc::Global;
+use std::sync::Wait;
+use std::thread::Threads;
 
-/// The commands so far.
+/// The commands.
 const USAGE: &[u8] =
-    b"usage: kompics check S | sim S Z | make N system|scenario | drill N | upgrade S\n";
+    b"usage: kompics check S | sim S Z | run S Z WORKERS | make N system|scenario | drill N | upgrade S\n";
 
 /// How a call of the program ended.
 #[derive(Drop)]
@@ -33,26 +31,47 @@ pub struct Ended {
 
 /// Does what the words say: `check S` reads the system S and writes its canonical text, and
 /// `upgrade S` that of the upgraded system; `sim S Z` reads the system S and the scenario Z,
-/// simulates them and writes the trace; `make N system` and `make N scenario` write the generated
-/// texts of a number from 1 to 30, and `drill N` simulates them and writes the two last lines of the
-/// trace.
+/// simulates them and writes the trace, and `run S Z WORKERS` runs them with 1 to 64 workers; `make N
+/// system` and `make N scenario` write the generated texts of a number from 1 to 30, and `drill N`
+/// simulates them and writes the two last lines of the trace. A run with workers asks the gate before
+/// each handling.
 ///
 /// A refusal, a fault of the shelf, and want of memory before the trace begins leave nothing written
 /// of it. The trace is written as it is made, so a sink that fails, and want of memory later on, leave
-/// a prefix.
+/// a prefix. The workers of a run wait for each other, so the call with `run` may wait.
+pub fn kompics_top<R: Threads + Wait + Sync, S: Shelf, K: Sink, G: Gate + Sync>(
+    rt: &R,
+    alloc: Global,
+    words: &Words,
+    shelf: &mut S,
+    out: &mut K,
+    gate: &G,
+) -> Ended
+    ensures { IsEnd true SYSTEM.now SCENARIO.now words.now (S.file shelf.old) result (S.count shelf.old) (S.count shelf.new) (K.count out.old) (K.count out.new) (K.written out.old) (K.written out.new) }
+{
+    let answer = answer_with(rt, alloc, words, shelf, gate);
+    write_answer(alloc, out, answer)
+}
+
+/// Does what the words say, as [`kompics_top`] does, but for `run`, whose words are no command to it.
+/// It needs no runtime, and does not wait.
 pub fn quiet_top<S: Shelf, K: Sink>(
     alloc: Global,
     words: &Words,
     shelf: &mut S,
     out: &mut K,
 ) -> Ended
-    ensures status { result.status ≤ 7 }
-    ensures ended { result.status ≤ 4 → (output : List ℕ) × Ends SYSTEM.now SCENARIO.now words.now (S.file shelf.old) result.kept result.status output × Adds output (K.written out.old) (K.written out.new) }
-    ensures shelf_fault { result.status ≡ 5 → Stops words.now (S.file shelf.old) (S.count shelf.old) (S.count shelf.new) × (result.kept ≡ None) × (K.written out.new ≡ K.written out.old) }
-    ensures sink_fault { result.status ≡ 6 → Rose (K.count out.old) (K.count out.new) × ((status : ℕ) × (output : List ℕ) × Ends SYSTEM.now SCENARIO.now words.now (S.file shelf.old) result.kept status output × AddsPrefix output (K.written out.old) (K.written out.new)) }
-    ensures memory { result.status ≡ 7 → ((result.kept ≡ None) × (K.written out.new ≡ K.written out.old)) ⊎ ((status : ℕ) × (output : List ℕ) × Ends SYSTEM.now SCENARIO.now words.now (S.file shelf.old) result.kept status output × AddsPrefix output (K.written out.old) (K.written out.new)) }
+    ensures { IsEnd false SYSTEM.now SCENARIO.now words.now (S.file shelf.old) result (S.count shelf.old) (S.count shelf.new) (K.count out.old) (K.count out.new) (K.written out.old) (K.written out.new) }
 {
-    match answer_to(alloc, words, shelf) {
+    let answer = answer_to(alloc, words, shelf);
+    write_answer(alloc, out, answer)
+}
+
+/// Writes what the words came to, and ends with its status unless the sink fails or memory runs out.
+fn write_answer<K: Sink>(alloc: Global, out: &mut K, answer: Answer) -> Ended
+    ensures { (has_workers : Bool) (system scenario : List ℕ) (words : List (List ℕ)) (files : List ℕ → Option (List ℕ)) (before after : List ℕ → ℕ) → IsAnswer has_workers system scenario words files answer before after → IsEnd has_workers system scenario words files result before after (K.count out.old) (K.count out.new) (K.written out.old) (K.written out.new) }
+{
+    match answer {
         Answer::NoCommand => say(out, USAGE, 2),
         Answer::Text(text) => say(out, text.as_slice(), 0),
         Answer::Refused(line) => say(out, line.as_bytes(), 1),
@@ -83,7 +102,6 @@ fn say<K: Sink>(out: &mut K, text: &[u8], status: u8) -> Ended
 
 /// Writes the text of a run, and ends with its status unless the sink fails or memory runs out.
 fn write_run<K: Sink>(alloc: Global, out: &mut K, run: Run) -> Ended
-    requires { IsRan (arc_value run.system).declarations run.plan run.ran }
     ensures kept { result.kept ≡ Some run.ran.kept }
     ensures written { IsWritten result.status run.ran.status (written_of run.brief (arc_value run.system).event_names (arc_value run.system).declarations run.plan run.ran.kept.history) (K.written out.old) (K.written out.new) (K.count out.old) (K.count out.new) }
 {
