@@ -24,7 +24,7 @@ const SERVING: usize = 2;
 const LOW_HALF: u64 = 0xffff_ffff;
 
 /// How often a thread looks again for its turn before it sleeps.
-const LOOKS: u32 = 500;
+const LOOKS: u32 = 5000;
 
 fn count_of_taken(answer: &Taken) -> u64
     ensures { result ≡ count_taken answer.now }

@@ -95,4 +95,4 @@ run_send = let a : IsSend held.the_row = search sendable depth 20 in let b : IsS
     search (record_send, as_row_send, plain_send, crosses, ordered_send, system_send, system_sync, kept_send, state_send, env_send, comps_send) depth 20
 
 pub core_send : IsSend core.the_row
-core_send = search (record_send, as_row_send, plain_send, crosses, run_send) depth 20
+core_send = search (record_send, as_row_send, crosses, run_send) depth 20

@@ -88,12 +88,3 @@ module _ (has_workers : Bool) (system scenario : List ℕ) (words : List (List �
       sink_fault = λ h. absurd (omega (arith, s, h));
       memory = λ h. absurd (omega (arith, s, h));
     }
-
-    pub of_want : (w : Option (List ℕ)) (f : ℕ) → e.status ≡ 7 → e.kept ≡ None → IsEnd has_workers system scenario words files e shelf shelf_after f f w w
-    of_want w f s k = record {
-      status = omega (arith, s);
-      ended = λ h. absurd (omega (arith, s, h));
-      shelf_fault = λ h. absurd (omega (arith, s, h));
-      sink_fault = λ h. absurd (omega (arith, s, h));
-      memory = λ h. inl (k, refl);
-    }

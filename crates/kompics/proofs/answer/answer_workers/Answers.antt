@@ -9,7 +9,7 @@ returns-in-Ok g c = λ words is.
     let s = c.args.asked.now.system.now in
     let z = c.args.asked.now.scenario.now in
     let n = c.args.asked.now.workers in
-    of_run true _ _ words _ _ _ (by_workers n) false _ _ _ (of_files (by_workers n) s z (to_work refl s z n c.requires.0 c.requires.1 is)) c.in-Ok.ensures.system
+    of_run true _ _ words _ _ (g.S.Shelf.count c.load_both.new.shelf) (by_workers n) false _ _ _ (of_files (by_workers n) s z (to_work refl s z n c.requires.0 c.requires.1 is)) c.in-Ok.ensures.system
     _ c.crewed.result c.in-Ok.ensures.plan c.crewed.ensures
 
 pub returns-in-Err : goal.returns-in-Err
