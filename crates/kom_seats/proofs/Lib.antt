@@ -1,0 +1,3 @@
+mod Duos
+mod Kept
+mod Placing

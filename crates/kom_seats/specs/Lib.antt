@@ -1,0 +1,3 @@
+pub mod Duos
+pub mod Placing
+pub mod Turns
