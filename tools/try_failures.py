@@ -9,7 +9,8 @@ too. First each request for memory fails, one after another: the program ends wi
 its output, or as it should. Then each call that opens or reads a file fails: it ends with status 5 and
 nothing written. Then each call that writes: it ends with status 6 and a prefix. Last all files are read and
 all output is written in pieces of one byte: it ends as it should. Runs with three workers are tried with
-requests for memory that fail: they end with status 7, or as runs of theirs end.
+requests for memory that fail: they end with status 7, or as runs of theirs end; one that does not end in a
+minute is wrong.
 """
 
 import os
@@ -103,8 +104,14 @@ class Failures:
         ours, theirs = os.pipe()
         names = {f"FAIL_{word.upper()}": str(value) for word, value in how.items()}
         env = {"LD_PRELOAD": str(self.shim), "FAIL_TELL": str(theirs), **names}
-        ended = subprocess.run([self.program, *words], capture_output=True, check=False, pass_fds=[theirs], env=env)
-        os.close(theirs)
+        try:
+            ended = subprocess.run(
+                [self.program, *words], capture_output=True, check=False, pass_fds=[theirs], env=env, timeout=60
+            )
+        except subprocess.TimeoutExpired:
+            return None, b"", True
+        finally:
+            os.close(theirs)
         failed = os.read(ours, 1) == b"x"
         os.close(ours)
         return ended.returncode, ended.stdout, failed

@@ -128,30 +128,39 @@ impl Worker {
         }
     }
 
-    /// One step: the next component of the lots, or else what a rest says.
-    pub fn step<R: Wait, T: Station, G: Gate>(&mut self, rt: &R, crew: &Crew<T>, gate: &G) -> Step
+    /// One step: the next component of the lots, or else what a rest says. It sleeps only where there
+    /// was no news since `heard`.
+    pub fn step<R: Wait, T: Station, G: Gate>(
+        &mut self,
+        rt: &R,
+        crew: &Crew<T>,
+        gate: &G,
+        heard: u32,
+    ) -> Step
         requires { IsIdle T.system T.plan T.history crew.now self.old }
         ensures stepped { Stepped T.system T.plan T.history crew.now self.new result }
         ensures number { self.new.seat.number ≡ self.old.seat.number }
     {
-        let heard = crew.heard();
         match self.next(rt, crew) {
             Some(c) => self.take(rt, crew, gate, c),
             None => self.rest(rt, crew, gate, heard),
         }
     }
 
-    /// Works until nothing is left to do, or the record is closed, or some worker finds no memory.
+    /// Works until nothing is left to do, or the record is closed, or some worker finds no memory. It
+    /// looks at the news before the flag, so that whoever sets the flag and tells of it afterwards
+    /// finds no worker that goes to sleep later.
     pub fn work<R: Wait, T: Station, G: Gate>(&mut self, rt: &R, crew: &Crew<T>, gate: &G)
         requires { IsIdle T.system T.plan T.history crew.now self.old }
         ensures worker { IsWorker T.system T.plan T.history crew.now self.new }
         ensures number { self.new.seat.number ≡ self.old.seat.number }
     {
         for _ in rt.forever() {
+            let heard = crew.heard();
             if crew.stop.load(Ordering::SeqCst) {
                 return;
             }
-            match self.step(rt, crew, gate) {
+            match self.step(rt, crew, gate, heard) {
                 Step::Again => {}
                 Step::Over => {
                     crew.call_all();
@@ -180,7 +189,7 @@ impl Worker {
         ensures number { self.new.seat.number ≡ self.old.seat.number }
     {
         for _ in rt.forever() {
-            match self.step(rt, crew, gate) {
+            match self.step(rt, crew, gate, crew.heard()) {
                 Step::Again => {}
                 Step::Over => return true,
                 Step::Memory => return false,
