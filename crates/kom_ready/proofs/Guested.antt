@@ -1,10 +1,10 @@
 -- What changes with one of the guests of a lot.
-use Rattle.std.proofs.Common.{◌≡◌, ℕ, zero, suc, ◌+◌, ◌<◌, ◌≤◌, List, [], ◌∷◌, length, set, get_or, map, Some, refl, sym, ap, ◌∙◌, subst, arith}
-use Rattle.std.specs.Prelude.{Option, None, slice_get}
+use Rattle.std.proofs.Common.{◌≡◌, ◌≢◌, ℕ, zero, suc, ◌+◌, ◌<◌, ◌≤◌, List, [], ◌∷◌, length, set, get_or, map, Some, refl, sym, ap, ◌∙◌, subst, arith}
+use Rattle.std.specs.Prelude.{Option, None, min, slice_get}
 use Rattle.std.specs.List.{sum_by}
 use Rattle.std.proofs.lemmas.List.Sums.{sum_by-cons}
 use Rattle.kom_ready.specs.declared.guest.Guest.{Guest}
-use Rattle.kom_ready.specs.Counts.{Rose}
+use Rattle.kom_ready.specs.Counts.{Rose, last_count}
 use Rattle.kom_ready.specs.Guests.{found_in}
 
 -- x at i becomes n
@@ -40,6 +40,19 @@ module _ (g n : Guest) where
   rises [] i lt at rose = absurd (omega (arith, lt))
   rises (x ∷ xs) zero lt at rose = let e = ap (λ (y : Guest). y.found) at in subst (λ k. Rose k n.found) e rose
   rises (x ∷ xs) (suc i) lt at rose = rises xs i (omega (arith, lt)) at rose
+
+  -- the counts of the other deques stay
+  pub none_else : (gs : List Guest) (i j : ℕ) → j ≢ i → found_in (set gs i n) j ≡ found_in gs j
+  none_else [] i j ne = refl
+  none_else (x ∷ xs) zero zero ne = absurd (ne refl)
+  none_else (x ∷ xs) zero (suc j) ne = refl
+  none_else (x ∷ xs) (suc i) zero ne = refl
+  none_else (x ∷ xs) (suc i) (suc j) ne = none_else xs i j (λ e. ne (ap suc e))
+
+  pub counts_one : (gs : List Guest) (i : ℕ) → i < length gs → g ≡ get_or gs i g → n.found ≡ min (g.found + 1) last_count → found_in (set gs i n) i ≡ min (found_in gs i + 1) last_count
+  counts_one [] i lt at e = absurd (omega (arith, lt))
+  counts_one (x ∷ xs) zero lt at e = e ∙ ap (λ (y : Guest). min (y.found + 1) last_count) at
+  counts_one (x ∷ xs) (suc i) lt at e = counts_one xs i (omega (arith, lt)) at e
 
 -- the deques to which there are passes are those of the thieves
 pub at_place : {X D : Type 0} (f : X → D) (gs : List X) (i : ℕ) (g : X) → i < length gs → g ≡ get_or gs i g → slice_get (map f gs) i ≡ Some (f g)

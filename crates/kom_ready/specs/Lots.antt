@@ -1,5 +1,5 @@
 -- What a lot keeps, and which deques it is a lot of.
-use Rattle.std.specs.Prelude.{◌≡◌, ◌+◌, ◌<◌, ◌≤◌, ℕ, List, [], map, length, take, Some, slice_get}
+use Rattle.std.specs.Prelude.{◌≡◌, ◌≢◌, ◌+◌, ◌<◌, ◌≤◌, ℕ, List, [], map, length, take, Some, slice_get}
 use Rattle.std.specs.List.{sum_by}
 use Rattle.crossbeam_deque.specs.Handles.{stealer_deque, worker_deque, worker_view}
 use Rattle.kom_ready.specs.declared.lots.Lot.{Lot}
@@ -43,6 +43,10 @@ pub record IsSameLot (old new : Lot) : Type 0 where
 -- no count fell
 abbrev pub NoneFell : Lot → Lot → Type 0
 NoneFell old new = (j : ℕ) → found_of old j ≤ found_of new j
+
+-- no count changed but that of worker k's deque
+abbrev pub NoneElse : ℕ → Lot → Lot → Type 0
+NoneElse k old new = (j : ℕ) → j ≢ k → found_of new j ≡ found_of old j
 
 -- they are the lots of these deques, in order
 pub record AreLotsOf (set : ReadySet) (lots : List Lot) : Type 0 where

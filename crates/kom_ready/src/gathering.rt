@@ -17,7 +17,8 @@ use kom_base::Comp;
 
 impl ReadySet {
     /// What is left in all the lots of a set, given in order of number: what was pushed to them and
-    /// they did not give. Room for as many components as were pushed is made first. It costs the
+    /// they did not give. Room for as many components as were pushed is made first. `Memory` is want
+    /// of memory, and gives all back as it was. The order of what is left is not said. It costs the
     /// square of the number of lots, and what is left.
     pub fn gather(self, lots: Vec<Lot>) -> Gathered
         requires { AreLotsOf self lots.items }

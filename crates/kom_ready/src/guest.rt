@@ -1,7 +1,7 @@
 //! What a lot has of the deque of one worker.
-ghost use Rattle.std.specs.Prelude.{◌≡◌, ◌≤◌, [], None};
+ghost use Rattle.std.specs.Prelude.{◌≡◌, ◌+◌, ◌≤◌, [], None, min};
 ghost use Rattle.crossbeam_deque.specs.Handles.{view};
-ghost use Rattle.kom_ready.specs.Counts.{Rose};
+ghost use Rattle.kom_ready.specs.Counts.{Rose, last_count};
 
 use crate::rule::Ticket;
 
@@ -20,6 +20,7 @@ impl Guest {
     pub(crate) fn note(&mut self)
         ensures pass { self.new.pass ≡ self.old.pass }
         ensures found { Rose self.old.found self.new.found × (self.old.found ≤ self.new.found) }
+        ensures exact { self.new.found ≡ min (self.old.found + 1) last_count }
     {
         self.found = self.found.saturating_add(1);
     }

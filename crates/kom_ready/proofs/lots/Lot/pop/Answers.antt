@@ -1,6 +1,6 @@
 use Rattle.std.proofs.Common.{refl, ap}
 use Rattle.kom_ready.specs.Guests.{guest_deque}
-use Rattle.kom_ready.proofs.Guested.{none_falls, rises, same_map}
+use Rattle.kom_ready.proofs.Guested.{counts_one, none_else, none_falls, rises, same_map}
 use Rattle.kom_ready.proofs.Keeping.{leaves, settles}
 use Rattle.kom_ready.proofs.lots.Lot.pop.Goals as goal
 
@@ -30,3 +30,10 @@ pub returns-in-None-clause-found : goal.returns-in-None-clause-found
 returns-in-None-clause-found c =
     let was = c.args.self.now in
     none_falls c.index_mut.result.now c.note.new.self was.guests.items was.number c.requires c.index_mut.ensures.value c.note.ensures.found.1
+
+pub returns-in-None-clause-counts : goal.returns-in-None-clause-counts
+returns-in-None-clause-counts c =
+    let was = c.args.self.now in (
+      none_else c.index_mut.result.now c.note.new.self was.guests.items was.number,
+      counts_one c.index_mut.result.now c.note.new.self was.guests.items was.number c.requires c.index_mut.ensures.value c.note.ensures.exact,
+    )
