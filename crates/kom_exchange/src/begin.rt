@@ -55,7 +55,7 @@ impl<T: Station, A: Allocator> Exchange<T, A> {
 impl<T: Station> Exchange<T> {
     /// Puts a station whose record has no job in hand into an exchange with 1 to 64 seats. Each seat
     /// has seen the record, has no entry of its own and no job in hand, and there is room in the list
-    /// for all of them.
+    /// for all of them. `Memory` is want of memory, with the station as it was given.
     pub fn begin(alloc: Global, station: T, seats: u32) -> Begun<T>
         requires count { (0 < seats) × (seats ≤ 64) }
         requires idle { in_hand (T.history station) ≡ [] }

@@ -102,7 +102,9 @@ impl<T: Station, A: Allocator> Exchange<T, A> {
     ///
     /// The answer is the station's for the record at the seat's turn: the next item as a job, which is
     /// then in the seat's hand; nothing; that the record is closed; or want of memory, with nothing
-    /// taken. With these the hand stays empty. The call may wait for the seats that asked before.
+    /// taken. With these the hand stays empty. Want of memory aside, `Closed` comes exactly where that
+    /// record is closed, and `Nothing` exactly where it is not and the component is not ready. The call
+    /// may wait for the seats that asked before.
     pub fn take<R: Wait>(&self, rt: &R, seat: &mut Seat, c: Comp) -> Taken
         requires seat { IsSeatOf (about_of T.system T.plan) self.now seat.old }
         requires free { IsFree (view seat.old).own.seen seat.old.number }
@@ -123,7 +125,8 @@ impl<T: Station, A: Allocator> Exchange<T, A> {
     ///
     /// The answer is the station's for the record at the seat's turn: who became ready by the entry, and
     /// the seat's hand is then empty; or want of memory, which gives the job back, still in the seat's
-    /// hand, and adds nothing. The call may wait as `take` does.
+    /// hand, and adds nothing. The Did is Void where the component was destroyed meanwhile. The call may
+    /// wait as `take` does.
     pub fn commit<R: Wait>(&self, rt: &R, seat: &mut Seat, ran: Ran) -> Committed
         requires seat { IsSeatOf (about_of T.system T.plan) self.now seat.old }
         requires job { (ran.job.w ≡ seat.old.number) × IsInHand (T.system (given_to self.now)) (view seat.old).own.seen ran.job }
@@ -141,8 +144,11 @@ impl<T: Station, A: Allocator> Exchange<T, A> {
     }
 
     /// Says what there is to do for a seat that found nothing, and moves the time where there is nothing
-    /// else. The answer is the station's for the record at the seat's turn. What the seat has in hand
-    /// stays. The call may wait as `take` does.
+    /// else. The answer is the station's for the record at the seat's turn: `Moved` where the time moved,
+    /// which adds an entry; `Ready` with the least component that is ready; `Waiting` where none is and a
+    /// job is in hand; `End` where nothing is ready, in hand or pending; `Closed`, want of memory aside
+    /// exactly where the record is closed; `Memory` is want of memory, and the time did not move. All but
+    /// `Moved` add nothing. What the seat has in hand stays. The call may wait as `take` does.
     pub fn rest<R: Wait>(&self, rt: &R, seat: &mut Seat) -> Rest
         requires seat { IsSeatOf (about_of T.system T.plan) self.now seat.old }
         ensures seat { IsSameSeat seat.old seat.new }

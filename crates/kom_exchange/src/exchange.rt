@@ -36,15 +36,18 @@ pub struct Seat {
     ghost fair: { IsFair (sole badge.views) },
 }
 
-/// The place at the table that the badge stands for.
+/// The place at the table that the badge stands for. The badge is blank until the place goes back into
+/// it.
 pub(crate) fn sit<T>(badge: &mut Badge<View>) -> Place<T>
     requires { badge.old.views ≡ sole badge.old.views ∷ [] }
-    ensures { (result.table_id ≡ badge.old.table_id) × (result.id ≡ badge.old.id) × (result.me ≡ (sole badge.old.views, [])) }
+    ensures blank { badge.new.views ≡ [] }
+    ensures place { (result.table_id ≡ badge.old.table_id) × (result.id ≡ badge.old.id) × (result.me ≡ (sole badge.old.views, [])) }
 {
     mem::replace(badge, Badge::blank()).into_seat()
 }
 
 impl Seat {
+    /// A seat at a place that is in no call.
     pub(crate) fn new<T>(place: Place<T>, number: u32) -> Seat
         requires rests { (place.me.1 ≡ []) × (place.me.0.stage ≡ Idle) × (place.me.0.spent ≡ false) }
         requires view { (place.me.0.own.number ≡ number) × IsFair place.me.0 }
@@ -56,6 +59,7 @@ impl Seat {
         }
     }
 
+    /// The place of the seat.
     pub(crate) fn into_place<T>(self) -> Place<T>
         ensures { (result.table_id ≡ self.badge.table_id) × (result.id ≡ self.badge.id) × (result.me ≡ (sole self.badge.views, [])) }
     {
