@@ -24,7 +24,8 @@ fn is_gathered(set: ReadySet, lots: Vec<Lot>) -> bool
 }
 
 /// Gathers what is left in the lots and closes the exchange, with the seats and lots of all workers,
-/// which go into the lists that they came from. `ended` says that each worker saw the end.
+/// which go into the lists that they came from. `ended` says that each worker saw the end. `Ended`
+/// where each worker saw the end and what is left could be gathered, else `Memory`.
 pub fn close<T: Station>(
     crew: Crew<T>,
     workers: Vec<Worker>,

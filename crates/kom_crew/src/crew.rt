@@ -29,7 +29,8 @@ impl<T: Station> Crew<T> {
         (self.news.load(Ordering::SeqCst) & LOW_HALF) as u32
     }
 
-    /// Sleeps where there was no news since `heard`, until somebody calls.
+    /// Sleeps where there was no news since `heard`, until somebody calls. It may wait for ever, and may
+    /// return though nobody called.
     pub fn sleep<R: Wait>(&self, rt: &R, heard: u32) {
         self.news.park(rt, heard);
     }

@@ -10,7 +10,8 @@ use std::sync::Wait;
 use std::thread;
 use std::thread::Threads;
 
-/// Each worker works in a thread of its own.
+/// Each worker works in a thread of its own. The call returns when all have ended; what a worker has
+/// in hand is then left with it. It may wait, as handlings of other workers and the gate do.
 pub fn work_all<R: Threads + Wait + Sync, T: Station + Send, G: Gate + Sync>(
     rt: &R,
     crew: &Crew<T>,
@@ -71,7 +72,9 @@ fn end_all<R: Wait, T: Station, G: Gate>(
 }
 
 /// Drives the station to its end as one worker after another: first the jobs that are left are
-/// ended, so that none is in hand. `false` is want of memory.
+/// ended, so that none is in hand. With `true` each worker has seen that nothing is left to do or that
+/// the record is closed. `false` is want of memory; what a worker has in hand is left with it. It may
+/// wait as `work_all` does.
 pub fn drive_on<R: Wait, T: Station, G: Gate>(
     rt: &R,
     crew: &Crew<T>,
