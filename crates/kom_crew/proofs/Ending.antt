@@ -1,6 +1,6 @@
 -- How a crew begins and ends.
 use Rattle.std.proofs.Common.{◌≡◌, ◌⊎◌, ⊎_elim, inl, inr, ℕ, ◌<◌, ◌≤◌, Bool, true, false, not, ◌&&◌, ◌||◌, refl, sym, ap, ap₂, ◌∙◌, subst, List, [], ◌∷◌, ◌++◌, length, length-append, arith}
-use Rattle.std.specs.Prelude.{Some, is_none, filter, slice_get}
+use Rattle.std.specs.Prelude.{Some, is_none, filter, min, slice_get}
 use Rattle.kom_base.specs.Lists.{first}
 use Rattle.kom_lang.specs.Declarations.{Declarations}
 use Rattle.kom_system.specs.declared.system.System.{System}
@@ -20,12 +20,13 @@ use Rattle.kom_exchange.specs.Later.{IsLater, about_of}
 use Rattle.kom_exchange.specs.Seats.{view, given_to, right_for, AreAll, AreFresh}
 use Rattle.kom_exchange.proofs.Places.{later_length}
 use Rattle.kom_ready.specs.declared.lots.Lot.{Lot}
-use Rattle.kom_ready.specs.Lots.{AreLotsOf, IsLotOf}
+use Rattle.kom_ready.specs.Counts.{last_count}
+use Rattle.kom_ready.specs.Lots.{AreLotsOf, IsLotOf, given_of, AreFresh as AreFreshLots}
 use Rattle.kom_ready.proofs.Guested.{long_map, below_there}
 use Rattle.kom_crew.specs.declared.crew.Crew.{Crew}
 use Rattle.kom_crew.specs.declared.worker.Left.TheVariants.{Nothing}
 use Rattle.kom_crew.specs.declared.worker.Worker.{Worker}
-use Rattle.kom_crew.specs.Workers.{seen_by, size_of, EachOf, IsDone, IsIdle, IsOver, IsWorker}
+use Rattle.kom_crew.specs.Workers.{seen_by, size_of, EachOf, IsCounted, IsDone, IsIdle, IsOver, IsWorker}
 use Rattle.kom_crew.specs.Seated.{AreSeated, seats_of, lots_of}
 use Rattle.kom_crew.specs.Crews.{IsDriven, IsEnded}
 use Rattle.kom_crew.proofs.Crowds.{there_at, index_there, map_there, there_of_map}
@@ -73,13 +74,16 @@ module _ (S : Declarations) (Z : Plan) where
 
 -- ---- the workers of a crew
 
+nothing_counted : (w : Worker) → w.given ≡ 0 → given_of w.lot ≡ [] → IsCounted w
+nothing_counted w none empty = none ∙ ap (λ (xs : List ℕ). min (length xs) last_count) (sym empty)
+
 module _ {T : Type 0} (system : T → System) (plan : T → Plan) (history : T → History) (crew : Crew T) where
   -- they begin idle
   pub seated : (legal : ∥ IsLegal (system (given_to crew.exchange)).declarations (plan (given_to crew.exchange)) (history (given_to crew.exchange)) ∥₁) (seats : List Seat) (lots : List Lot) (ws : List Worker)
       → in_hand (history (given_to crew.exchange)) ≡ []
       → AreFresh crew.exchange.table.shared.table_id (history (given_to crew.exchange)) (about_of system plan (given_to crew.exchange)) (size_of crew) seats
-      → AreLotsOf crew.set lots → AreSeated seats lots ws → EachOf (size_of crew) (IsIdle system plan history crew) ws
-  seated legal seats lots ws none fresh of are = (
+      → AreLotsOf crew.set lots → AreFreshLots lots → AreSeated seats lots ws → EachOf (size_of crew) (IsIdle system plan history crew) ws
+  seated legal seats lots ws none fresh of unused are = (
     sym (long_map (λ (w : Worker). w.seat) ws) ∙ (ap length are.seats_are ∙ fresh.0),
     λ k w e.
         let f = fresh.1 k w.seat (ap (λ l. slice_get l k) (sym are.seats_are) ∙ map_there (λ (w : Worker). w.seat) ws k w e) in
@@ -96,6 +100,7 @@ module _ {T : Type 0} (system : T → System) (plan : T → Plan) (history : T �
               legal = subst (λ (P : History). ∥ IsLegal (system (given_to crew.exchange)).declarations (plan (given_to crew.exchange)) P ∥₁) (sym (ap (λ (v : View). v.own.seen) f.2)) legal;
               lot = of.each k w.lot at;
               number = of.numbers k w.lot at ∙ sym f.1;
+              counted = nothing_counted w (subst (λ (x : Worker). x.given ≡ 0) (index_there ws k w w e) (are.given k w (below_there ws k w e))) (unused k w.lot at).given;
             },
             subst (λ (x : Worker). x.left ≡ Nothing) (index_there ws k w w e) (are.idle k w (below_there ws k w e)),
             subst (λ (P : History). IsFree P w.seat.number) (sym (ap (λ (v : View). v.own.seen) f.2)) (free_at_first (history (given_to crew.exchange)) w.seat.number none),

@@ -1,6 +1,8 @@
+pub mod Counting
 pub mod Crossing
 pub mod Crowds
 pub mod Ending
 pub mod Places
+pub mod Pushing
 pub mod Records
 pub mod WellFormed

@@ -1,5 +1,5 @@
 -- Where a worker of a crew stands between two of its steps.
-use Rattle.std.specs.Prelude.{◌≡◌, ℕ, ◌||◌, true, List, [], length, Some, slice_get}
+use Rattle.std.specs.Prelude.{◌≡◌, ℕ, ◌||◌, true, min, List, [], length, Some, slice_get}
 use Rattle.kom_lang.specs.Declarations.{Declarations}
 use Rattle.kom_system.specs.declared.system.System.{System}
 use Rattle.kom_record.specs.declared.plan.Plan.{Plan}
@@ -10,7 +10,8 @@ use Rattle.kom_record.specs.Ready.{is_closed, is_idle}
 use Rattle.kom_record.specs.Answers.{IsFree, IsInHand}
 use Rattle.kom_exchange.specs.Later.{IsLater, about_of}
 use Rattle.kom_exchange.specs.Seats.{view, given_to, right_for}
-use Rattle.kom_ready.specs.Lots.{IsLotOf, deques_of}
+use Rattle.kom_ready.specs.Counts.{last_count}
+use Rattle.kom_ready.specs.Lots.{IsLotOf, deques_of, given_of}
 use Rattle.kom_crew.specs.declared.crew.Crew.{Crew}
 use Rattle.kom_crew.specs.declared.step.Step.{Step}
 use Rattle.kom_crew.specs.declared.step.Step.TheVariants.{Again, Over, Memory}
@@ -21,6 +22,10 @@ use Rattle.kom_crew.specs.declared.worker.Worker.{Worker}
 -- the record that a worker has seen
 abbrev pub seen_by : Worker → History
 seen_by w = (view w.seat).own.seen
+
+-- the worker has counted what its lot gave; the count stands still at the greatest u64
+abbrev pub IsCounted : Worker → Type 0
+IsCounted w = w.given ≡ min (length (given_of w.lot)) last_count
 
 -- how many workers a crew has
 abbrev pub size_of : {T : Type 0} → Crew T → ℕ
@@ -45,7 +50,7 @@ abbrev pub EachOf : ℕ → (Worker → Type 0) → List Worker → Type 0
 EachOf n P workers = (length workers ≡ n) × ((k : ℕ) (w : Worker) → slice_get workers k ≡ Some w → (w.seat.number ≡ k) × P w)
 
 module _ {T : Type 0} (system : T → System) (plan : T → Plan) (history : T → History) where
-  -- the seat and the lot are the worker's, and what the seat has seen is legal and begins with the given record
+  -- the seat, the lot and the count are the worker's, and what the seat has seen is legal and begins with the given record
   pub record IsAt (crew : Crew T) (w : Worker) : Type 0 where
     pub table : w.seat.badge.table_id ≡ crew.exchange.table.shared.table_id
     pub about : (view w.seat).own.about ≡ about_of system plan (given_to crew.exchange)
@@ -56,6 +61,7 @@ module _ {T : Type 0} (system : T → System) (plan : T → Plan) (history : T �
     pub legal : ∥ IsLegal (system (given_to crew.exchange)).declarations (plan (given_to crew.exchange)) (seen_by w) ∥₁
     pub lot : IsLotOf crew.set w.lot
     pub number : w.lot.number ≡ w.seat.number
+    pub counted : IsCounted w
 
   -- what is left with the worker is what it has in hand
   abbrev pub IsWorker : Crew T → Worker → Type 0

@@ -3,7 +3,7 @@ ghost use Rattle.std.specs.Prelude.{◌≡◌, ◌≤◌, [], length, vec_capaci
 ghost use Rattle.kom_record.specs.Entries.{in_hand};
 ghost use Rattle.kom_exchange.specs.Later.{about_of};
 ghost use Rattle.kom_exchange.specs.Seats.{given_to, AreFresh as AreFreshSeats};
-ghost use Rattle.kom_ready.specs.Lots.{AreLotsOf};
+ghost use Rattle.kom_ready.specs.Lots.{AreFresh, AreLotsOf};
 ghost use Rattle.kom_crew.specs.Crews.{IsCrewed};
 ghost use Rattle.kom_crew.specs.Workers.{EachOf, IsIdle, size_of};
 
@@ -60,6 +60,7 @@ fn muster<T: Station>(
     requires idle { in_hand (T.history (given_to crew.now.exchange)) ≡ [] }
     requires seats { AreFreshSeats crew.now.exchange.table.shared.table_id (T.history (given_to crew.now.exchange)) (about_of T.system T.plan (given_to crew.now.exchange)) (size_of crew.now) seats.old.items }
     requires lots { AreLotsOf crew.now.set lots.old.items }
+    requires fresh { AreFresh lots.old.items }
     requires room { (room.items ≡ []) × (size_of crew.now ≤ vec_capacity room) }
     ensures idle { EachOf (size_of crew.now) (IsIdle T.system T.plan T.history crew.now) result.items }
     ensures empty { (seats.new.items ≡ []) × (lots.new.items ≡ []) }
@@ -85,6 +86,7 @@ fn drive<R: Threads + Wait + Sync, T: Station + Send, G: Gate + Sync>(
     requires idle { in_hand (T.history (given_to crew.exchange)) ≡ [] }
     requires seats { AreFreshSeats crew.exchange.table.shared.table_id (T.history (given_to crew.exchange)) (about_of T.system T.plan (given_to crew.exchange)) (size_of crew) seats.items }
     requires lots { AreLotsOf crew.set lots.items }
+    requires fresh { AreFresh lots.items }
     requires room { (room.items ≡ []) × (size_of crew ≤ vec_capacity room) }
     ensures { IsCrewed T.system T.plan T.history (given_to crew.exchange) (size_of crew) result.crewed }
 {
@@ -96,8 +98,8 @@ fn drive<R: Threads + Wait + Sync, T: Station + Send, G: Gate + Sync>(
     Counted { crewed, given }
 }
 
-/// [`run_crew`], with how many components the lots gave to their workers. It may wait as `run_crew`
-/// does.
+/// [`run_crew`], with how many components the lots gave to their workers. No clause speaks of `given`:
+/// who steals from whom is left to the schedule. It may wait as `run_crew` does.
 pub fn run_crew_counted<R: Threads + Wait + Sync, T: Station + Send, G: Gate + Sync>(
     rt: &R,
     alloc: Global,
@@ -140,7 +142,10 @@ pub fn run_crew_counted<R: Threads + Wait + Sync, T: Station + Send, G: Gate + S
 /// goes on.
 ///
 /// `Ended` is a finished record that begins with the given one, and each entry after that is by a
-/// worker below `workers`. The call may wait, as handlings of other workers and the gate do.
+/// worker below `workers`. `Memory` is want of memory before the run begins, again where one thread
+/// goes on, or where what is left in the lots is gathered after the end. The station then stands for a
+/// legal record that begins with the given one; each entry after that is by a worker below `workers`,
+/// whose jobs may be in hand. The call may wait, as handlings of other workers and the gate do.
 pub fn run_crew<R: Threads + Wait + Sync, T: Station + Send, G: Gate + Sync>(
     rt: &R,
     alloc: Global,

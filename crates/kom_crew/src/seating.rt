@@ -1,6 +1,7 @@
 //! The seats and the lots are given to the workers, and come back from them.
-ghost use Rattle.std.specs.Prelude.{◌≡◌, ◌≤◌, [], length, vec_capacity};
-ghost use Rattle.kom_crew.specs.Seated.{AreSeated, seats_of, lots_of, given_in_all};
+ghost use Rattle.std.specs.Prelude.{◌≡◌, ◌≤◌, [], All, length, vec_capacity};
+ghost use Rattle.kom_crew.specs.Seated.{AreSeated, seats_of, lots_of, given_by_all, given_in_all};
+ghost use Rattle.kom_crew.specs.Workers.{IsCounted};
 
 use crate::worker::{Left, Worker};
 use kom_exchange::Seat;
@@ -53,7 +54,9 @@ pub fn unseat_all(mut workers: Vec<Worker>, seats: &mut Vec<Seat>, lots: &mut Ve
 
 /// How many components the lots gave, added up. The sum stands still at the end of its type.
 pub fn given_to_all(workers: &[Worker]) -> u64
-    ensures { result ≡ given_in_all workers.now }
+    requires { All IsCounted workers.now }
+    ensures counts { result ≡ given_in_all workers.now }
+    ensures lots { result ≡ given_by_all (lots_of workers.now) }
 {
     let mut given = 0u64;
     for worker in workers {

@@ -1,6 +1,7 @@
 //! The steps of a worker.
-ghost use Rattle.std.specs.Prelude.{◌≡◌, true, false};
-ghost use Rattle.kom_ready.specs.Lots.{IsSameLot};
+ghost use Rattle.std.specs.Prelude.{◌≡◌, ℕ, List, ◌++◌, true, false};
+ghost use Rattle.kom_ready.specs.Lots.{IsSameLot, given_of, pushed_of};
+ghost use Rattle.kom_crew.specs.Parts.{IsPart};
 ghost use Rattle.kom_crew.specs.Workers.{IsBusy, IsDone, IsIdle, IsWorker, Stepped};
 
 use crate::crew::Crew;
@@ -15,11 +16,13 @@ use std::sync::Wait;
 use std::sync::atomic::Ordering;
 
 impl Worker {
-    /// Puts components into the own lot. One that the lot hands back is dropped, since a rest names it
-    /// later.
+    /// Puts components into the own lot, in order. One that the lot hands back is dropped, since a rest
+    /// names it later.
     pub fn push_all(&mut self, wakes: &Wakes)
         ensures lot { IsSameLot self.old.lot self.new.lot }
         ensures rest { (self.new.seat ≡ self.old.seat) × (self.new.left ≡ self.old.left) }
+        ensures given { (self.new.given ≡ self.old.given) × (given_of self.new.lot ≡ given_of self.old.lot) }
+        ensures pushed { (put : List ℕ) × IsPart put wakes.now × (pushed_of self.new.lot ≡ pushed_of self.old.lot ++ put) }
     {
         for i in 0..wakes.len() {
             let Some(c) = wakes.at(i) else {
@@ -129,7 +132,7 @@ impl Worker {
     }
 
     /// One step: the next component of the lots, or else what a rest says. It sleeps only where there
-    /// was no news since `heard`.
+    /// was no news since `heard`. What it has in hand is left with it. It may wait.
     pub fn step<R: Wait, T: Station, G: Gate>(
         &mut self,
         rt: &R,
@@ -149,7 +152,7 @@ impl Worker {
 
     /// Works until nothing is left to do, or the record is closed, or some worker finds no memory. It
     /// looks at the news before the flag, so that whoever sets the flag and tells of it afterwards
-    /// finds no worker that goes to sleep later.
+    /// finds no worker that goes to sleep later. What it has in hand is left with it. It may wait.
     pub fn work<R: Wait, T: Station, G: Gate>(&mut self, rt: &R, crew: &Crew<T>, gate: &G)
         requires { IsIdle T.system T.plan T.history crew.now self.old }
         ensures worker { IsWorker T.system T.plan T.history crew.now self.new }
@@ -176,7 +179,8 @@ impl Worker {
         unreachable!()
     }
 
-    /// Works until nothing is left to do, or the record is closed; `false` is want of memory.
+    /// Works until nothing is left to do, or the record is closed; `false` is want of memory. What it
+    /// has in hand is left with it. It may wait.
     pub fn work_on<R: Wait, T: Station, G: Gate>(
         &mut self,
         rt: &R,
@@ -198,7 +202,8 @@ impl Worker {
         unreachable!()
     }
 
-    /// Ends the job that is left, where there is one.
+    /// Ends the job that is left, where there is one. `Again`: none is left any more. `Memory`: it is
+    /// left still. It may wait.
     pub fn end_left<R: Wait, T: Station>(&mut self, rt: &R, crew: &Crew<T>) -> Step
         requires { IsWorker T.system T.plan T.history crew.now self.old }
         ensures stepped { Stepped T.system T.plan T.history crew.now self.new result }

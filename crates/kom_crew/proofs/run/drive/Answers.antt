@@ -1,4 +1,7 @@
-use Rattle.std.proofs.Common.{arith}
+use Rattle.std.proofs.Common.{sym, subst, arith}
+use Rattle.std.specs.Prelude.{All}
+use Rattle.kom_crew.specs.Workers.{IsCounted, IsWorker, size_of}
+use Rattle.kom_crew.proofs.Counting.{each_all}
 use Rattle.kom_crew.proofs.run.drive.Goals as goal
 
 pub work_all-requires-clause-some : goal.work_all-requires-clause-some
@@ -9,6 +12,12 @@ work_all-requires-clause-idle g c κs within = c.muster-workers.ensures.idle
 
 pub drive_on-ended-requires : goal.drive_on-ended-requires
 drive_on-ended-requires g c = c.work_all.ensures
+
+pub given_to_all-given-requires : goal.given_to_all-given-requires
+given_to_all-given-requires g c =
+    let crew = c.args.crew in
+    let all = each_all (size_of crew) (IsWorker g.T.StandsFor.system g.T.StandsFor.plan g.T.StandsFor.history crew) IsCounted c.drive_on-ended.new.workers.items (λ w h. h.0.counted) c.drive_on-ended.ensures.workers in
+    subst (All IsCounted) (sym c.as_slice.ensures.value) all
 
 pub close-crewed-requires : goal.close-crewed-requires
 close-crewed-requires g c =

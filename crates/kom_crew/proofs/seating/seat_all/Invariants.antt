@@ -11,6 +11,7 @@ invariant-loop l = record {
   seats_are : seats_of l.workers.items ≡ take l.counter l.fn.seats.items;
   lots_are : lots_of l.workers.items ≡ take l.counter l.fn.lots.items;
   idle : All (λ w. w.left ≡ Nothing) l.workers.items;
+  given : All (λ w. w.given ≡ 0) l.workers.items;
   seats_room : vec_capacity l.seats ≡ vec_capacity l.fn.seats;
   lots_room : vec_capacity l.lots ≡ vec_capacity l.fn.lots;
   room : vec_capacity l.workers ≡ vec_capacity l.fn.workers;

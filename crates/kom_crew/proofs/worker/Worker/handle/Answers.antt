@@ -28,6 +28,6 @@ end_job-requires g c =
 pub returns-in-Memory-clause-stepped : goal.returns-in-Memory-clause-stepped
 returns-in-Memory-clause-stepped g c =
     let w = c.args.self.now in (
-      same_place g.T.StandsFor.system g.T.StandsFor.plan g.T.StandsFor.history c.args.crew.now w _ refl (itself w.lot) c.requires.0,
+      same_place g.T.StandsFor.system g.T.StandsFor.plan g.T.StandsFor.history c.args.crew.now w _ refl (itself w.lot) (λ h. h) c.requires.0,
       subst (λ (j : Job). IsHand (g.T.StandsFor.system (given_to c.args.crew.now.exchange)) (seen_by w) w.seat.number j) (sym c.in-Memory.ensures) c.requires.2,
     )
