@@ -1,6 +1,7 @@
 //! The steps of a worker.
-ghost use Rattle.std.specs.Prelude.{◌≡◌, ℕ, List, ◌++◌, true, false};
-ghost use Rattle.kom_ready.specs.Lots.{IsSameLot, given_of, pushed_of};
+ghost use Rattle.std.specs.Prelude.{◌≡◌, ℕ, ◌<◌, List, [], ◌∷◌, ◌++◌, MatchOption, length, true, false};
+ghost use Rattle.kom_ready.specs.Counts.{Rose};
+ghost use Rattle.kom_ready.specs.Lots.{IsSameLot, found_of, given_of, pushed_of};
 ghost use Rattle.kom_crew.specs.Parts.{IsPart};
 ghost use Rattle.kom_crew.specs.Workers.{IsBusy, IsDone, IsIdle, IsWorker, Stepped};
 
@@ -32,10 +33,12 @@ impl Worker {
         }
     }
 
-    /// The next component that the own lot gives.
+    /// The next component that the own lot gives; `None` only where each deque was found empty in this
+    /// call.
     fn next<R: Wait, T: Station>(&mut self, rt: &R, crew: &Crew<T>) -> Option<Comp>
         requires { IsIdle T.system T.plan T.history crew.now self.old }
         ensures idle { IsIdle T.system T.plan T.history crew.now self.new }
+        ensures gave { MatchOption result ((given_of self.new.lot ≡ given_of self.old.lot) × ((j : ℕ) → j < length self.old.lot.guests.items → Rose (found_of self.old.lot j) (found_of self.new.lot j))) (λ c. given_of self.new.lot ≡ given_of self.old.lot ++ c ∷ []) }
         ensures number { self.new.seat.number ≡ self.old.seat.number }
     {
         let found = self.lot.next(rt, &crew.set);
