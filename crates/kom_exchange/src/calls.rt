@@ -146,7 +146,7 @@ impl<T: Station, A: Allocator> Exchange<T, A> {
     /// Says what there is to do for a seat that found nothing, and moves the time where there is nothing
     /// else. The answer is the station's for the record at the seat's turn: `Moved` where the time moved,
     /// which adds an entry; `Ready` with the least component that is ready; `Waiting` where none is and a
-    /// job is in hand; `End` where nothing is ready, in hand or pending; `Closed`, want of memory aside
+    /// job is in hand; `End` where nothing is ready, in hand or pending; `Closed`, want of memory aside,
     /// exactly where the record is closed; `Memory` is want of memory, and the time did not move. All but
     /// `Moved` add nothing. What the seat has in hand stays. The call may wait as `take` does.
     pub fn rest<R: Wait>(&self, rt: &R, seat: &mut Seat) -> Rest
