@@ -15,10 +15,10 @@ module _ (S : System) (Z : Plan) (R : History) where
   -- to worker w, which had this in hand and asked for the next item of c
   abbrev pub SaysTake : ℕ → ℕ → Option Job → Said → History → Type 0
   SaysTake w c had said.Job Q = (had ≡ None) × ((job : Job) × IsJobFor S Z R w c job Q)
-  SaysTake w c had said.Nothing Q = AnswersTake S Z R w c taken.Nothing Q
-  SaysTake w c had said.Closed Q = AnswersTake S Z R w c taken.Closed Q
+  SaysTake w c had said.Nothing Q = (had ≡ None) × AnswersTake S Z R w c taken.Nothing Q
+  SaysTake w c had said.Closed Q = (had ≡ None) × AnswersTake S Z R w c taken.Closed Q
   SaysTake w c had said.NoCall Q = (had ≡ None → ⊥) × (Q ≡ R)
-  SaysTake w c had said.Memory Q = Q ≡ R
+  SaysTake w c had said.Memory Q = (had ≡ None) × (Q ≡ R)
   SaysTake w c had (said.Ended woken) Q = ⊥
   SaysTake w c had (said.Moved woken) Q = ⊥
   SaysTake w c had (said.Ready d) Q = ⊥
@@ -29,7 +29,7 @@ module _ (S : System) (Z : Plan) (R : History) where
   abbrev pub SaysEnd : Option Job → Said → History → Type 0
   SaysEnd had (said.Ended woken) Q = (ran : Ran) × (had ≡ Some ran.job) × IsCommit S Z R ran woken Q
   SaysEnd had said.NoCall Q = (had ≡ None) × (Q ≡ R)
-  SaysEnd had said.Memory Q = Q ≡ R
+  SaysEnd had said.Memory Q = (had ≡ None → ⊥) × (Q ≡ R)
   SaysEnd had said.Job Q = ⊥
   SaysEnd had said.Nothing Q = ⊥
   SaysEnd had said.Closed Q = ⊥

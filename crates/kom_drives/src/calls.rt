@@ -45,6 +45,9 @@ pub enum Said {
 
 /// Takes the next item of a component where the worker has no job in hand. The job is then in its
 /// hand; what others have in hand stays there.
+///
+/// The answer is the station's: `Job`, `Nothing`, `Closed`, or `Memory`; with all but `Job` the
+/// record and the hand are as before. `NoCall` is the answer to a worker that has a job in hand.
 pub fn take_item<T: Station>(station: &mut T, hand: &mut Hand, c: Comp) -> Said
     requires { Holds (T.system station.old) (T.history station.old) hand.old }
     ensures says { SaysTake (T.system station.old) (T.plan station.old) (T.history station.old) hand.old.w c hand.old.job result (T.history station.new) }
@@ -69,6 +72,10 @@ pub fn take_item<T: Station>(station: &mut T, hand: &mut Hand, c: Comp) -> Said
 
 /// Handles the job that the worker has in hand, and ends it. The worker has none then; what others
 /// have in hand stays there.
+///
+/// The answer is `Ended` with those that became ready by it. `Memory` is want of memory for the
+/// handling or for its end; the record is as before, and the job stays in hand. `NoCall` is the
+/// answer to a worker that has none.
 pub fn end_job<T: Station>(alloc: Global, station: &mut T, hand: &mut Hand) -> Said
     requires { Holds (T.system station.old) (T.history station.old) hand.old }
     ensures says { SaysEnd (T.system station.old) (T.plan station.old) (T.history station.old) hand.old.job result (T.history station.new) }
@@ -99,6 +106,9 @@ pub fn end_job<T: Station>(alloc: Global, station: &mut T, hand: &mut Hand) -> S
 }
 
 /// Asks for a worker what there is to do, and moves the time where there is nothing else.
+///
+/// The answer is the station's: `Moved`, `Ready`, `Waiting`, `End`, `Closed`, or `Memory` with no
+/// move. What each worker has in hand stays.
 pub fn rest<T: Station>(station: &mut T, w: u32) -> Said
     ensures says { SaysRest (T.system station.old) (T.plan station.old) (T.history station.old) w result (T.history station.new) }
     ensures run { IsSameRun T.system T.plan station.old station.new }

@@ -33,7 +33,7 @@ module _ (S : System) (Z : Plan) (s t : Seat) where
   -- to a worker that had this in hand and ended it; want of memory for the handling comes before any call
   abbrev pub SeatedEnd : Option Job → Said → Type 0
   SeatedEnd had (said.Ended woken) = Turn 1 (λ R Q. SaysEnd S Z R had (said.Ended woken) Q)
-  SeatedEnd had said.Memory = (t ≡ s) ⊎ Turn 0 (λ R Q. SaysEnd S Z R had said.Memory Q)
+  SeatedEnd had said.Memory = (had ≡ None → ⊥) × ((t ≡ s) ⊎ Turn 0 (λ R Q. SaysEnd S Z R had said.Memory Q))
   SeatedEnd had said.NoCall = (had ≡ None) × (t ≡ s)
   SeatedEnd had said.Job = ⊥
   SeatedEnd had said.Nothing = ⊥
