@@ -1,5 +1,5 @@
 -- From what is to be written to how the call ended.
-use Rattle.std.proofs.Common.{◌≡◌, ◌≤◌, ℕ, Bool, true, false, List, Option, None, refl, sym, subst, arith, inl, inr}
+use Rattle.std.proofs.Common.{◌≡◌, ◌≤◌, ◌⊎◌, ◌∙◌, ℕ, Bool, true, false, List, Option, None, refl, sym, subst, arith, inl, inr}
 use Rattle.std.specs.Prelude.{◌&&◌, if◌then◌else◌}
 use Rattle.kom_io.specs.Faults.{Rose}
 use Rattle.kom_io.specs.Texts.{AddsPrefix}
@@ -10,7 +10,8 @@ use Rattle.kom_record.specs.Kept.{Kept}
 use Rattle.kom_record.specs.Ready.{has_unhandled, is_closed, has_more}
 use Rattle.kompics.specs.Runs.{status_of}
 use Rattle.kompics.specs.declared.top.Ended.{Ended}
-use Rattle.kompics.specs.Top.{Files, Stops, Ends, no_command, made_system, made_scenario, printed, system_refused, scenario_refused, ran, Adds, IsWritten, IsEnd}
+use Rattle.kompics.specs.Top.{Files, Stops, Ends, no_command, made_system, made_scenario, printed, system_refused, scenario_refused, ran, Adds, IsWritten, IsDone, IsAccepted, HasBroken, IsEnd}
+use Rattle.kompics.proofs.Completing.{is_done, is_refused}
 
 -- ---- the status of a run
 
@@ -66,6 +67,16 @@ module _ (has_workers : Bool) (system scenario : List ℕ) (words : List (List �
     cut_short (inr (inl x)) h = absurd (let e = x.0 in omega (arith, e, h))
     cut_short (inr (inr x)) h = (wanted, output, ends, x.1)
 
+    all_done : IsWritten status wanted output w w' f f' → (runs : Bool) → IsAccepted has_workers system scenario words files runs → IsDone runs status ⊎ (5 ≤ status)
+    all_done (inl x) runs asks = inl (subst (IsDone runs) (sym (x.0)) (is_done has_workers system scenario words files kept wanted output ends runs asks))
+    all_done (inr (inl x)) runs asks = inr (let e = x.0 in omega (arith, e))
+    all_done (inr (inr x)) runs asks = inr (let e = x.0 in omega (arith, e))
+
+    all_refused : IsWritten status wanted output w w' f f' → HasBroken has_workers system scenario words files → (status ≡ 1) ⊎ (5 ≤ status)
+    all_refused (inl x) b = inl (x.0 ∙ is_refused has_workers system scenario words files kept wanted output ends b)
+    all_refused (inr (inl x)) b = inr (let e = x.0 in omega (arith, e))
+    all_refused (inr (inr x)) b = inr (let e = x.0 in omega (arith, e))
+
   module _ (e : Ended) (shelf shelf_after : List ℕ → ℕ) where
     pub of_written : (kept : Option Kept) (wanted : ℕ) (output : List ℕ) (w w' : Option (List ℕ)) (f f' : ℕ) → e.kept ≡ kept → Ends has_workers system scenario words files kept wanted output
         → IsWritten e.status wanted output w w' f f' → IsEnd has_workers system scenario words files e shelf shelf_after f f' w w'
@@ -77,6 +88,8 @@ module _ (has_workers : Bool) (system scenario : List ℕ) (words : List (List �
           shelf_fault = λ h. absurd (no_stop e.kept e.status wanted output w w' f f' ends is h);
           sink_fault = λ h. sunk e.kept e.status wanted output w w' f f' ends is h;
           memory = λ h. inr (cut_short e.kept e.status wanted output w w' f f' ends is h);
+          complete = λ runs asks. all_done e.kept e.status wanted output w w' f f' ends is runs asks;
+          refused = λ b. all_refused e.kept e.status wanted output w w' f f' ends is b;
         }
 
     pub of_shelf : (w : Option (List ℕ)) (f : ℕ) → e.status ≡ 5 → e.kept ≡ None → Stops has_workers words files shelf shelf_after
@@ -87,4 +100,18 @@ module _ (has_workers : Bool) (system scenario : List ℕ) (words : List (List �
       shelf_fault = λ h. (stops, k, refl);
       sink_fault = λ h. absurd (omega (arith, s, h));
       memory = λ h. absurd (omega (arith, s, h));
+      complete = λ runs asks. inr (omega (arith, s));
+      refused = λ b. inr (omega (arith, s));
+    }
+
+    pub of_memory : (w : Option (List ℕ)) (f : ℕ) → e.status ≡ 7 → e.kept ≡ None
+        → IsEnd has_workers system scenario words files e shelf shelf_after f f w w
+    of_memory w f s k = record {
+      status = omega (arith, s);
+      ended = λ h. absurd (omega (arith, s, h));
+      shelf_fault = λ h. absurd (omega (arith, s, h));
+      sink_fault = λ h. absurd (omega (arith, s, h));
+      memory = λ h. inl (k, refl);
+      complete = λ runs asks. inr (omega (arith, s));
+      refused = λ b. inr (omega (arith, s));
     }

@@ -1,3 +1,4 @@
+mod Completing
 mod Crossing
 mod Ending
 mod Finding

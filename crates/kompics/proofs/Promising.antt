@@ -1,6 +1,6 @@
 -- What is kept of a run.
-use Rattle.std.proofs.Common.{◌≡◌, ◌<◌, ◌∙◌, ap, ℕ, [], ◌&&◌, ◌||◌, if◌then◌else◌, Bool, true, false, refl, sym}
-use Rattle.std.specs.Prelude.{not, is_none}
+use Rattle.std.proofs.Common.{◌≡◌, ◌<◌, ◌∙◌, ap, ℕ, List, [], ◌∷◌, ◌++◌, Option, Some, None, ◌&&◌, ◌||◌, if◌then◌else◌, Bool, true, false, refl, sym, subst}
+use Rattle.std.specs.Prelude.{not, is_none, is_some}
 use Rattle.std.specs.List.{AllByRecursion}
 use Rattle.std.proofs.lemmas.List.{append-nil}
 use Rattle.std.proofs.Math.Logic.{∥∥₁_elim, ∥∥₁_map}
@@ -10,26 +10,62 @@ use Rattle.kom_lang.specs.Declarations.{Declarations}
 use Rattle.kom_system.specs.declared.system.System.{System}
 use Rattle.kom_system.specs.WellFormed.{IsDeclared}
 use Rattle.kom_record.specs.declared.plan.Plan.{Plan}
+use Rattle.kom_record.specs.declared.entry.Outcome.{Outcome}
+use Rattle.kom_record.specs.declared.entry.Entry.TheVariants.{Did}
 use Rattle.kom_record.specs.Entries.{History, in_hand}
+use Rattle.kom_record.specs.Bodies.{nearest}
+use Rattle.kom_record.specs.Controls.{raised}
+use Rattle.kom_record.specs.Handed.{IsBefore}
 use Rattle.kom_record.specs.Legal.{IsLegal}
 use Rattle.kom_record.specs.Views.{worker_of}
-use Rattle.kom_record.specs.Ready.{has_unhandled, is_closed, is_idle, is_finished, has_more}
-use Rattle.kom_laws.specs.Laws.{EachInOrder, NumbersRise, DeadChannelsRest, ReceiptsAreHandedOver, StatesAreHandedOver, HandlingsAlternate, OutcomesAreReactions, FaultsReachTheNearest}
+use Rattle.kom_record.specs.Ready.{is_unhandled, has_unhandled, is_closed, is_idle, is_finished, has_more}
+use Rattle.kom_laws.specs.Laws.{EachInOrder, NumbersRise, DeadChannelsRest, ReceiptsAreHandedOver, StatesAreHandedOver, HandlingsAlternate, OutcomesAreReactions, FaultsReachTheNearest, EscalationsReachTheNearest}
+use Rattle.kom_laws.proofs.Handlings.{legal_before}
 use Rattle.kom_exchange.specs.declared.close.Shut.{Shut}
 use Rattle.kom_crew.specs.Crews.{IsDriven, IsEnded}
 use Rattle.kompics.specs.Promises.{Promises}
 use Rattle.kompics.specs.Runs.{Drive, simulated, by_workers, MayKeep, IsRecordOf, status_of}
 
+-- ---- a fault of which nobody was told
+
+or_right : (a b : Bool) → b ≡ true → (a || b) ≡ true
+or_right true b e = refl
+or_right false b e = e
+
+or_left : (a b : Bool) → a ≡ true → (a || b) ≡ true
+or_left true b e = refl
+or_left false b e = absurd (cc)
+
+module _ (S : Declarations) where
+  stays_unhandled : (more P : History) → has_unhandled S P ≡ true → has_unhandled S (more ++ P) ≡ true
+  unfolding has_unhandled
+  stays_unhandled [] P e = e
+  stays_unhandled (x ∷ more) P e = or_left (has_unhandled S (more ++ P)) (is_unhandled S (more ++ P) x) (stays_unhandled more P e)
+
+  here_unhandled : (P : History) (w c took : ℕ) (o : Outcome) (to : Option ℕ) (places : List ℕ) (n : ℕ)
+      → raised P (Did w c took o to places) ≡ Some n → nearest S P c ≡ None → has_unhandled S (Did w c took o to places ∷ P) ≡ true
+  unfolding has_unhandled is_unhandled
+  here_unhandled P w c took o to places n r e =
+      or_right (has_unhandled S P) (is_some (raised P (Did w c took o to places)) && is_none (nearest S P c)) (rw (r, e) refl)
+
+  unhandled_in : (R P : History) (w c took : ℕ) (o : Outcome) (to : Option ℕ) (places : List ℕ) (n : ℕ)
+      → IsBefore (Did w c took o to places ∷ P) R → raised P (Did w c took o to places) ≡ Some n → nearest S P c ≡ None → has_unhandled S R ≡ true
+  unhandled_in R P w c took o to places n b r e =
+      subst (λ (Q : History). has_unhandled S Q ≡ true) (sym b.1) (stays_unhandled b.0 _ (here_unhandled P w c took o to places n r e))
+
 -- the laws of legal records, of one record
-pub promises : HandlingsAlternate → OutcomesAreReactions → EachInOrder → NumbersRise → DeadChannelsRest → FaultsReachTheNearest → StatesAreHandedOver → ReceiptsAreHandedOver
+pub promises : HandlingsAlternate → OutcomesAreReactions → EachInOrder → NumbersRise → DeadChannelsRest → FaultsReachTheNearest → EscalationsReachTheNearest → StatesAreHandedOver → ReceiptsAreHandedOver
     → (S : Declarations) (Z : Plan) (R : History) → IsDeclared S → IsLegal S Z R → Promises S R
-promises alternate react in_order rise dead faults states receipts S Z R d l = record {
+promises alternate react in_order rise dead faults escalations states receipts S Z R d l = record {
   one_at_a_time = λ c. alternate S Z R c l;
   replay = λ P w c took o to places b. react S Z R P w c took o to places l b;
   in_order = λ x d g. in_order S Z R x d l g;
   numbers_rise = λ x d. rise S R x d;
   dead_channels_rest = λ P x d b k a. dead S Z R P x d l b k a;
   faults_reach = λ P w c took n to places b. faults S P w c took n to places;
+  escalations_reach = λ P w c took body effects to places n a s b r e.
+      escalations S Z P w c took body effects to places n a s (legal_before S Z b.0 _ (subst (IsLegal S Z) b.1 l)) r e;
+  unhandled = λ P w c took o to places n b r e. unhandled_in S R P w c took o to places n b r e;
   states_go_over = states S Z R d l;
   receipts_go_over = receipts S Z R l;
 }

@@ -66,13 +66,13 @@ of_another_length words d e = record {
   no_drill = λ n some most h. d (ap length h);
 }
 
-head_is : (a b : List ℕ) (xs ys : List (List ℕ)) → a ∷ xs ≡ b ∷ ys → a ≡ b
+pub head_is : (a b : List ℕ) (xs ys : List (List ℕ)) → a ∷ xs ≡ b ∷ ys → a ≡ b
 head_is a b xs ys e = cc
 
-second_is : (a b c d : List ℕ) (xs ys : List (List ℕ)) → a ∷ b ∷ xs ≡ c ∷ d ∷ ys → b ≡ d
+pub second_is : (a b c d : List ℕ) (xs ys : List (List ℕ)) → a ∷ b ∷ xs ≡ c ∷ d ∷ ys → b ≡ d
 second_is a b c d xs ys e = cc
 
-third_is : (a b c d x y : List ℕ) → a ∷ b ∷ c ∷ [] ≡ d ∷ x ∷ y ∷ [] → c ≡ y
+pub third_is : (a b c d x y : List ℕ) → a ∷ b ∷ c ∷ [] ≡ d ∷ x ∷ y ∷ [] → c ≡ y
 third_is a b c d x y e = cc
 
 pub no_pair : (a b : List ℕ) → a ≢ codes "check" → a ≢ codes "upgrade" → a ≢ codes "drill" → IsNoCommand (a ∷ b ∷ [])
@@ -87,7 +87,7 @@ no_pair a b f g d = record {
 first_is : (a b : ℕ) (xs ys : List ℕ) → a ∷ xs ≡ b ∷ ys → a ≡ b
 first_is a b xs ys e = cc
 
-drill_is_no_form : (codes "drill" ≡ codes "check") ⊎ (codes "drill" ≡ codes "upgrade") → ⊥
+pub drill_is_no_form : (codes "drill" ≡ codes "check") ⊎ (codes "drill" ≡ codes "upgrade") → ⊥
 drill_is_no_form (inl e) = let h : 100 ≡ 99 = first_is 100 99 _ _ e in omega (arith, h)
 drill_is_no_form (inr e) = cc
 
@@ -109,7 +109,7 @@ no_command a b c f g = record {
   no_drill = λ n some most h. no_two a b c _ _ h;
 }
 
-no_sim : (b c s z : List ℕ) → codes "make" ∷ b ∷ c ∷ [] ≡ sim s z → ⊥
+pub no_sim : (b c s z : List ℕ) → codes "make" ∷ b ∷ c ∷ [] ≡ sim s z → ⊥
 no_sim b c s z h = let e : codes "make" ≡ codes "sim" = head_is _ _ _ _ h in cc
 
 pub no_number : (b c : List ℕ) → ((n : ℕ) → 1 ≤ n → n ≤ 30 → b ≢ decimal n) → IsNoCommand (codes "make" ∷ b ∷ c ∷ [])

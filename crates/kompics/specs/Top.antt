@@ -45,6 +45,10 @@ IsWritten status wanted output before after faults_before faults_after =
     ⊎ (((status ≡ 6) × Rose faults_before faults_after × AddsPrefix output before after)
     ⊎ ((status ≡ 7) × AddsPrefix output before after))
 
+-- the status of a call that did what was asked: 0, or, where that was a run, what its record says
+abbrev pub IsDone : (runs : Bool) → (status : ℕ) → Type 0
+IsDone runs status = (status ≡ 0) ⊎ ((runs ≡ true) × ((status ≡ 3) ⊎ (status ≡ 4)))
+
 -- `has_workers`: whether the call has workers to run with; to one that has none `run` is no command
 module _ (has_workers : Bool) (words : List (List ℕ)) where
   -- the words ask for a run of the system of one file under the scenario of another
@@ -93,6 +97,22 @@ module _ (has_workers : Bool) (system scenario : List ℕ) (words : List (List �
         → IsRecordOf drive S.declarations Z kept.history
         → Ends (Some kept) (status_of S.declarations Z kept.history) (written_of brief S.event_names S.declarations Z kept.history)
 
+  -- The words ask for what can be done: a generated text; the text of a system whose file is told and
+  -- breaks no rule; or, where `runs`, a run of two texts that are told and break none.
+  pub data IsAccepted : (runs : Bool) → Type 0 where
+    to_make_system : (n : ℕ) → 1 ≤ n → n ≤ 30 → words ≡ make n (codes "system") → IsAccepted false
+    to_make_scenario : (n : ℕ) → 1 ≤ n → n ≤ 30 → words ≡ make n (codes "scenario") → IsAccepted false
+    to_write : (form : Form) (s text : List ℕ) (S : Contents) → words ≡ print form s → files s ≡ Some text → Stands text S → IsAccepted false
+    to_go : (drive : Drive) (brief : Bool) (st zt : Option (List ℕ)) (text scene : List ℕ) (S : Contents) (Z : Plan)
+        → AsksRun drive brief st zt → st ≡ Some text → Stands text S → zt ≡ Some scene → IsPlanOf S scene Z → IsAccepted true
+
+  -- the words ask for a text that is told and breaks a rule: a system, or a scenario for an accepted one
+  pub data HasBroken : Type 0 where
+    in_system : (st : Option (List ℕ)) (text : List ℕ) (rule line column : ℕ)
+        → AsksSystem st → st ≡ Some text → IsRefused text rule line column → HasBroken
+    in_scenario : (drive : Drive) (brief : Bool) (st zt : Option (List ℕ)) (text scene : List ℕ) (S : Contents) (rule line column : ℕ)
+        → AsksRun drive brief st zt → st ≡ Some text → Stands text S → zt ≡ Some scene → IsRefusedFor S scene rule line column → HasBroken
+
   -- what is known of a call before anything is written
   abbrev pub IsAnswer : Answer → (before after : List ℕ → ℕ) → Type 0
   IsAnswer answer.NoCommand before after = Ends None 2 usage_line
@@ -104,7 +124,8 @@ module _ (has_workers : Bool) (system scenario : List ℕ) (words : List (List �
 
   -- How a call ended: with a status up to 4 as it should, with all that it should write; with 5 by a
   -- fault of the shelf, with nothing written; with 6 by a fault of the sink, and with 7 for want of
-  -- memory, with a prefix of what it should write. `shelf`, `shelf_after`, `sink` and `sink_after` are
+  -- memory, with a prefix of what it should write. What is accepted is done, and what breaks a rule is
+  -- refused, unless with 5 to 7. `shelf`, `shelf_after`, `sink` and `sink_after` are
   -- the counts of faults, `before` and `after` what was written.
   pub record IsEnd (e : Ended) (shelf shelf_after : List ℕ → ℕ) (sink sink_after : ℕ) (before after : Option (List ℕ)) : Type 0 where
     pub status : e.status ≤ 7
@@ -112,3 +133,5 @@ module _ (has_workers : Bool) (system scenario : List ℕ) (words : List (List �
     pub shelf_fault : e.status ≡ 5 → Stops has_workers words files shelf shelf_after × (e.kept ≡ None) × (after ≡ before)
     pub sink_fault : e.status ≡ 6 → Rose sink sink_after × ((status : ℕ) × (output : List ℕ) × Ends e.kept status output × AddsPrefix output before after)
     pub memory : e.status ≡ 7 → ((e.kept ≡ None) × (after ≡ before)) ⊎ ((status : ℕ) × (output : List ℕ) × Ends e.kept status output × AddsPrefix output before after)
+    pub complete : (runs : Bool) → IsAccepted runs → IsDone runs e.status ⊎ (5 ≤ e.status)
+    pub refused : HasBroken → (e.status ≡ 1) ⊎ (5 ≤ e.status)

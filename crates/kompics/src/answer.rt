@@ -34,8 +34,10 @@ pub enum Answer {
     Memory,
 }
 
-/// Does what the words say, but for the writing; where they ask for a run with workers, these handle
-/// by turns through the gate.
+/// Does what the words say, but for the writing. [`Answer`] says when each answer comes. Where the words
+/// ask for a run with workers, each of these passes the gate before it handles an item, and the call may
+/// wait, as handlings of other workers and the gate do. The files of the shelf stay as they are, and no
+/// count of faults falls.
 #[tactic(auto, using(crate::proofs::Finding::not_working))]
 pub fn answer_with<R: Threads + Wait + Sync, S: Shelf, G: Gate + Sync>(
     rt: &R,
@@ -44,7 +46,9 @@ pub fn answer_with<R: Threads + Wait + Sync, S: Shelf, G: Gate + Sync>(
     shelf: &mut S,
     gate: &G,
 ) -> Answer
-    ensures { IsAnswer true SYSTEM.now SCENARIO.now words.now (S.file shelf.old) result (S.count shelf.old) (S.count shelf.new) }
+    ensures answer { IsAnswer true SYSTEM.now SCENARIO.now words.now (S.file shelf.old) result (S.count shelf.old) (S.count shelf.new) }
+    ensures files { (n : List ℕ) → S.file shelf.new n ≡ S.file shelf.old n }
+    ensures counts { (n : List ℕ) → S.count shelf.old n ≤ S.count shelf.new n }
 {
     match run_of(words) {
         Some(asked) => answer_workers(rt, alloc, shelf, &asked, gate),
@@ -52,11 +56,13 @@ pub fn answer_with<R: Threads + Wait + Sync, S: Shelf, G: Gate + Sync>(
     }
 }
 
-/// Does what the words say without workers, but for the writing; to it the words of a run with
-/// workers are no command.
+/// Does what the words say without workers, but for the writing, as [`answer_with`] does; to it the
+/// words of a run with workers are no command, and it does not wait.
 #[tactic(auto, using(crate::proofs::Finding::unknown))]
 pub fn answer_to<S: Shelf>(alloc: Global, words: &Words, shelf: &mut S) -> Answer
-    ensures { IsAnswer false SYSTEM.now SCENARIO.now words.now (S.file shelf.old) result (S.count shelf.old) (S.count shelf.new) }
+    ensures answer { IsAnswer false SYSTEM.now SCENARIO.now words.now (S.file shelf.old) result (S.count shelf.old) (S.count shelf.new) }
+    ensures files { (n : List ℕ) → S.file shelf.new n ≡ S.file shelf.old n }
+    ensures counts { (n : List ℕ) → S.count shelf.old n ≤ S.count shelf.new n }
 {
     match command_of(words) {
         Some(Command::Print { form, system }) => answer_print(alloc, shelf, form, system),
@@ -132,7 +138,9 @@ fn planned(alloc: Global, found: Planned) -> Result<Plan, Answer>
 
 /// What the file of a command that writes its system comes to.
 fn answer_print<S: Shelf>(alloc: Global, shelf: &mut S, form: Form, name: &str) -> Answer
-    ensures { (has_workers : Bool) (words : List (List ℕ)) → words ≡ print form name.now → IsAnswer has_workers SYSTEM.now SCENARIO.now words (S.file shelf.old) result (S.count shelf.old) (S.count shelf.new) }
+    ensures answer { (has_workers : Bool) (words : List (List ℕ)) → words ≡ print form name.now → IsAnswer has_workers SYSTEM.now SCENARIO.now words (S.file shelf.old) result (S.count shelf.old) (S.count shelf.new) }
+    ensures files { (n : List ℕ) → S.file shelf.new n ≡ S.file shelf.old n }
+    ensures counts { (n : List ℕ) → S.count shelf.old n ≤ S.count shelf.new n }
 {
     match accepted(alloc, load_system(alloc, shelf, name)) {
         Ok(system) => printed(alloc, form, system),
@@ -161,7 +169,9 @@ fn load_both<S: Shelf>(
     system_name: &str,
     scenario_name: &str,
 ) -> Result<(System, Plan), Answer>
-    ensures { MatchResult result (λ found. AreOf (S.file shelf.old system_name.now) (S.file shelf.old scenario_name.now) found.0 found.1) (λ answer. (has_workers : Bool) (words : List (List ℕ)) (drive : Drive) → AsksFiles has_workers words drive system_name.now scenario_name.now → IsAnswer has_workers SYSTEM.now SCENARIO.now words (S.file shelf.old) answer (S.count shelf.old) (S.count shelf.new)) }
+    ensures answer { MatchResult result (λ found. AreOf (S.file shelf.old system_name.now) (S.file shelf.old scenario_name.now) found.0 found.1) (λ answer. (has_workers : Bool) (words : List (List ℕ)) (drive : Drive) → AsksFiles has_workers words drive system_name.now scenario_name.now → IsAnswer has_workers SYSTEM.now SCENARIO.now words (S.file shelf.old) answer (S.count shelf.old) (S.count shelf.new)) }
+    ensures files { (n : List ℕ) → S.file shelf.new n ≡ S.file shelf.old n }
+    ensures counts { (n : List ℕ) → S.count shelf.old n ≤ S.count shelf.new n }
 {
     let system = match accepted(alloc, load_system(alloc, shelf, system_name)) {
         Ok(system) => system,
@@ -181,7 +191,9 @@ fn answer_sim<S: Shelf>(
     system_name: &str,
     scenario_name: &str,
 ) -> Answer
-    ensures { (has_workers : Bool) (words : List (List ℕ)) → words ≡ sim system_name.now scenario_name.now → IsAnswer has_workers SYSTEM.now SCENARIO.now words (S.file shelf.old) result (S.count shelf.old) (S.count shelf.new) }
+    ensures answer { (has_workers : Bool) (words : List (List ℕ)) → words ≡ sim system_name.now scenario_name.now → IsAnswer has_workers SYSTEM.now SCENARIO.now words (S.file shelf.old) result (S.count shelf.old) (S.count shelf.new) }
+    ensures files { (n : List ℕ) → S.file shelf.new n ≡ S.file shelf.old n }
+    ensures counts { (n : List ℕ) → S.count shelf.old n ≤ S.count shelf.new n }
 {
     match load_both(alloc, shelf, system_name, scenario_name) {
         Ok((system, plan)) => answer_run(alloc, system, plan, false),
@@ -198,7 +210,9 @@ fn answer_workers<R: Threads + Wait + Sync, S: Shelf, G: Gate + Sync>(
     gate: &G,
 ) -> Answer
     requires { (1 ≤ asked.now.workers) × (asked.now.workers ≤ 64) }
-    ensures { (words : List (List ℕ)) → words ≡ run asked.now.system.now asked.now.scenario.now asked.now.workers → IsAnswer true SYSTEM.now SCENARIO.now words (S.file shelf.old) result (S.count shelf.old) (S.count shelf.new) }
+    ensures answer { (words : List (List ℕ)) → words ≡ run asked.now.system.now asked.now.scenario.now asked.now.workers → IsAnswer true SYSTEM.now SCENARIO.now words (S.file shelf.old) result (S.count shelf.old) (S.count shelf.new) }
+    ensures files { (n : List ℕ) → S.file shelf.new n ≡ S.file shelf.old n }
+    ensures counts { (n : List ℕ) → S.count shelf.old n ≤ S.count shelf.new n }
 {
     match load_both(alloc, shelf, asked.system, asked.scenario) {
         Ok((system, plan)) => crewed(rt, alloc, system, plan, asked.workers, gate),

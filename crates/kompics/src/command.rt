@@ -150,7 +150,8 @@ fn of_four<'w>(
     None
 }
 
-/// The run with workers that the words ask for.
+/// The run with workers that the words ask for; `None` exactly where they ask for no run with 1 to 64
+/// workers.
 #[tactic(auto, using(crate::proofs::Words::not_four, crate::proofs::Words::four))]
 pub fn run_of(words: &Words) -> Option<Crewed<'_>>
     ensures { MatchOption result (IsNoRun words.now) (λ r. IsCrewed r words.now) }
@@ -166,7 +167,7 @@ pub fn run_of(words: &Words) -> Option<Crewed<'_>>
     }
 }
 
-/// The command without workers that the words are.
+/// The command without workers that the words are; `None` exactly where they are none of these.
 #[tactic(auto, using(crate::proofs::Words::of_another_length, crate::proofs::Words::two, crate::proofs::Words::three))]
 pub fn command_of(words: &Words) -> Option<Command<'_>>
     ensures { MatchOption result (IsNoCommand words.now) (λ c. IsCommand c words.now) }

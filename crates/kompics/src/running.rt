@@ -46,8 +46,9 @@ pub struct Run {
     ghost tallied: { IsTallyOf (arc_value system).declarations plan ran.kept.history ran.tally },
 }
 
-/// Runs a system under a plan that fits it with so many workers, which handle by turns through the
-/// gate. The error is want of memory.
+/// Runs a system under a plan that fits it with so many workers, each of which passes the gate before it
+/// handles an item. The error is want of memory. The call may wait, as handlings of other workers and
+/// the gate do.
 pub fn run_with_workers<R: Threads + Wait + Sync, G: Gate + Sync>(
     rt: &R,
     alloc: Global,
@@ -75,7 +76,8 @@ pub fn run_with_workers<R: Threads + Wait + Sync, G: Gate + Sync>(
     })
 }
 
-/// Simulates a system under a plan that fits it. The error is want of memory.
+/// Simulates a system under a plan that fits it; `brief` says whether only the two last lines of its
+/// trace are asked for. The error is want of memory.
 pub fn run_system(alloc: Global, system: System, plan: Plan, brief: bool) -> Result<Run, AllocError>
     requires { PlanFits system.declarations plan }
     ensures system { IfOk result (λ run. arc_value run.system ≡ system) }
@@ -182,6 +184,7 @@ fn records_promise()
     kom_laws::numbers_rise();
     kom_laws::dead_channels_rest();
     kom_laws::faults_reach_the_nearest();
+    kom_laws::escalations_reach_the_nearest();
     kom_laws::states_are_handed_over();
     kom_laws::receipts_are_handed_over();
 }

@@ -1,6 +1,8 @@
+mod counting;
 mod outside;
 mod together;
 
+use counting::given_to_workers;
 use kom_make::{make_scenario, make_system};
 use kom_record::NoGate;
 use outside::{Outside, PLAIN, call, call_with_workers};
@@ -11,6 +13,9 @@ const SYSTEM: &str = "system 1;\ncomponent Main { }\nroot Main();\n";
 
 const SINGLE: &str =
     "system 1;\nevent N(n);\nport P { plus N; minus N; }\ncomponent Main {\n  provides p : P;\n  var got = 0;\n  on N at p as h { got = it.n; trigger N(got) at p; }\n}\nroot Main();\n";
+
+const SUBTYPES: &str =
+    "system 1;\nevent A(n);\nevent B : A (m);\nport P { minus A; }\ncomponent Main {\n  provides p : P;\n  var x = 0;\n  on A at p as ha off { x = x * 10 + 1; }\n  on B at p as hb { x = x * 10 + 2; }\n  on start as go { subscribe ha; }\n}\nroot Main();";
 
 const FAULTY: &str = "system 1;\ncomponent Main { on start as h { fail 7; } }\nroot Main();\n";
 
@@ -182,6 +187,23 @@ fn names_the_first_broken_rule(rt: HostRuntime) -> Result<(), Fail> {
 }
 
 #[test]
+fn refuses_a_file_that_is_cut_off(rt: HostRuntime) -> Result<(), Fail> {
+    let text = SUBTYPES.as_bytes();
+    let (status, _) = call(rt.alloc(), &["check", "s"], text, b"", &PLAIN)?;
+    assert_eq!(rt; status, 0);
+    for end in 0..text.len() {
+        let (status, out) = call(rt.alloc(), &["check", "s"], &text[..end], b"", &PLAIN)?;
+        let line = out.as_slice();
+        let named = line.starts_with(b"refused system rule 4 at ")
+            || line.starts_with(b"refused system rule 5 at ")
+            || line.starts_with(b"refused system rule 12 at ");
+        assert_eq!(rt; status, 1, "{end}");
+        assert!(rt; named, "{end}");
+    }
+    Ok(())
+}
+
+#[test]
 fn refuses_a_file_over_the_limit(rt: HostRuntime) -> Result<(), Fail> {
     for (system, scenario, status, text) in [
         (1048576, 1048576, 0, TRACE),
@@ -283,6 +305,21 @@ fn two_workers_handle_at_once(rt: HostRuntime) -> Result<(), Fail> {
         out.as_slice()
             .ends_with(b"took 3 did 3 moved 0 queued 0 out 0\n")
     );
+    Ok(())
+}
+
+#[test]
+fn workers_take_from_their_lots(rt: HostRuntime) -> Result<(), Fail> {
+    let gate = Together::new();
+    let given = given_to_workers(
+        &rt,
+        rt.alloc(),
+        TWO_LEAVES.as_bytes(),
+        SCENARIO.as_bytes(),
+        &gate,
+    )?;
+    assert!(rt; given.unwrap_or(0) >= 1);
+    assert!(rt; !gate.gave_up());
     Ok(())
 }
 

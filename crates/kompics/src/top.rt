@@ -1,4 +1,4 @@
-ghost use Rattle.std.specs.Prelude.{◌≡◌, ℕ, Bool, true, false, List, Option, Some, None};
+ghost use Rattle.std.specs.Prelude.{◌≡◌, ◌≤◌, ℕ, Bool, true, false, List, Option, Some, None};
 ghost use Rattle.std.specs.Arc.{arc_value};
 ghost use Rattle.kom_trace.specs.Seen.{written_of};
 ghost use Rattle.kompics.specs.Top.{IsAnswer, IsEnd, IsWritten};
@@ -38,7 +38,8 @@ pub struct Ended {
 ///
 /// A refusal, a fault of the shelf, and want of memory before the trace begins leave nothing written
 /// of it. The trace is written as it is made, so a sink that fails, and want of memory later on, leave
-/// a prefix. The workers of a run wait for each other, so the call with `run` may wait.
+/// a prefix. The files stay as they are, and no count of faults falls. The workers of a run wait for
+/// each other, so the call with `run` may wait.
 pub fn kompics_top<R: Threads + Wait + Sync, S: Shelf, K: Sink, G: Gate + Sync>(
     rt: &R,
     alloc: Global,
@@ -47,7 +48,10 @@ pub fn kompics_top<R: Threads + Wait + Sync, S: Shelf, K: Sink, G: Gate + Sync>(
     out: &mut K,
     gate: &G,
 ) -> Ended
-    ensures { IsEnd true SYSTEM.now SCENARIO.now words.now (S.file shelf.old) result (S.count shelf.old) (S.count shelf.new) (K.count out.old) (K.count out.new) (K.written out.old) (K.written out.new) }
+    ensures end { IsEnd true SYSTEM.now SCENARIO.now words.now (S.file shelf.old) result (S.count shelf.old) (S.count shelf.new) (K.count out.old) (K.count out.new) (K.written out.old) (K.written out.new) }
+    ensures files { (n : List ℕ) → S.file shelf.new n ≡ S.file shelf.old n }
+    ensures counts { (n : List ℕ) → S.count shelf.old n ≤ S.count shelf.new n }
+    ensures sink { K.count out.old ≤ K.count out.new }
 {
     let answer = answer_with(rt, alloc, words, shelf, gate);
     write_answer(alloc, out, answer)
@@ -61,7 +65,10 @@ pub fn quiet_top<S: Shelf, K: Sink>(
     shelf: &mut S,
     out: &mut K,
 ) -> Ended
-    ensures { IsEnd false SYSTEM.now SCENARIO.now words.now (S.file shelf.old) result (S.count shelf.old) (S.count shelf.new) (K.count out.old) (K.count out.new) (K.written out.old) (K.written out.new) }
+    ensures end { IsEnd false SYSTEM.now SCENARIO.now words.now (S.file shelf.old) result (S.count shelf.old) (S.count shelf.new) (K.count out.old) (K.count out.new) (K.written out.old) (K.written out.new) }
+    ensures files { (n : List ℕ) → S.file shelf.new n ≡ S.file shelf.old n }
+    ensures counts { (n : List ℕ) → S.count shelf.old n ≤ S.count shelf.new n }
+    ensures sink { K.count out.old ≤ K.count out.new }
 {
     let answer = answer_to(alloc, words, shelf);
     write_answer(alloc, out, answer)
@@ -69,7 +76,8 @@ pub fn quiet_top<S: Shelf, K: Sink>(
 
 /// Writes what the words came to, and ends with its status unless the sink fails or memory runs out.
 fn write_answer<K: Sink>(alloc: Global, out: &mut K, answer: Answer) -> Ended
-    ensures { (has_workers : Bool) (system scenario : List ℕ) (words : List (List ℕ)) (files : List ℕ → Option (List ℕ)) (before after : List ℕ → ℕ) → IsAnswer has_workers system scenario words files answer before after → IsEnd has_workers system scenario words files result before after (K.count out.old) (K.count out.new) (K.written out.old) (K.written out.new) }
+    ensures end { (has_workers : Bool) (system scenario : List ℕ) (words : List (List ℕ)) (files : List ℕ → Option (List ℕ)) (before after : List ℕ → ℕ) → IsAnswer has_workers system scenario words files answer before after → IsEnd has_workers system scenario words files result before after (K.count out.old) (K.count out.new) (K.written out.old) (K.written out.new) }
+    ensures sink { K.count out.old ≤ K.count out.new }
 {
     match answer {
         Answer::NoCommand => say(out, USAGE, 2),
@@ -93,6 +101,7 @@ fn without_record(status: u8) -> Ended
 fn say<K: Sink>(out: &mut K, text: &[u8], status: u8) -> Ended
     ensures kept { result.kept ≡ None }
     ensures written { IsWritten result.status status text.now (K.written out.old) (K.written out.new) (K.count out.old) (K.count out.new) }
+    ensures sink { K.count out.old ≤ K.count out.new }
 {
     match write_all_of(out, text) {
         Written::All => without_record(status),
@@ -104,6 +113,7 @@ fn say<K: Sink>(out: &mut K, text: &[u8], status: u8) -> Ended
 fn write_run<K: Sink>(alloc: Global, out: &mut K, run: Run) -> Ended
     ensures kept { result.kept ≡ Some run.ran.kept }
     ensures written { IsWritten result.status run.ran.status (written_of run.brief (arc_value run.system).event_names (arc_value run.system).declarations run.plan run.ran.kept.history) (K.written out.old) (K.written out.new) (K.count out.old) (K.count out.new) }
+    ensures sink { K.count out.old ≤ K.count out.new }
 {
     let Run {
         system,

@@ -4,16 +4,16 @@ use Rattle.kompics.specs.Top.{to_run, of_files, at_system, at_scenario}
 use Rattle.kompics.proofs.Finding.{rose_after, stands, is_plan, plan_fits, no_system, no_plan}
 use Rattle.kompics.proofs.answer.load_both.Goals as goal
 
-pub returns-in-Err : goal.returns-in-Err
-returns-in-Err g c = λ has_workers words drive asks.
+pub returns-in-Err-clause-answer : goal.returns-in-Err-clause-answer
+returns-in-Err-clause-answer g c = λ has_workers words drive asks.
     let file = g.S.Shelf.file c.args.shelf.now in
     let s = c.args.system_name.now in
     let z = c.args.scenario_name.now in
     no_system has_workers _ _ words file _ _ (file s) c.load_system.result c.in-Err.answer
     (to_run drive false (file s) (file z) (of_files drive s z asks)) c.load_system.ensures.answer (λ e. at_system drive s z asks (c.load_system.ensures.fault e)) c.in-Err.ensures
 
-pub returns-in-Err-planned : goal.returns-in-Err-planned
-returns-in-Err-planned g c = λ has_workers words drive asks.
+pub returns-in-Err-planned-clause-answer : goal.returns-in-Err-planned-clause-answer
+returns-in-Err-planned-clause-answer g c = λ has_workers words drive asks.
     let file = g.S.Shelf.file c.args.shelf.now in
     let s = c.args.system_name.now in
     let z = c.args.scenario_name.now in
@@ -23,8 +23,8 @@ returns-in-Err-planned g c = λ has_workers words drive asks.
     (subst (λ (f : Option (List ℕ)). IsPlanned S c.load_scenario-found.result f) (c.load_system.ensures.files z) c.load_scenario-found.ensures.answer)
     (λ e. at_scenario drive s z S asks accepted (rose_after _ _ _ (c.load_system.ensures.counts.never_falls z) (c.load_scenario-found.ensures.fault e))) c.in-Err-planned.ensures
 
-pub returns-in-Ok-planned : goal.returns-in-Ok-planned
-returns-in-Ok-planned g c =
+pub returns-in-Ok-planned-clause-answer : goal.returns-in-Ok-planned-clause-answer
+returns-in-Ok-planned-clause-answer g c =
     let file = g.S.Shelf.file c.args.shelf.now in
     let s = c.args.system_name.now in
     let z = c.args.scenario_name.now in
