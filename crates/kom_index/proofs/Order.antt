@@ -316,6 +316,9 @@ module _ {K V : Type 0} (R : K → K → Ordering) (o : IsTotalOrder R) where
   pub remove_tied : (k : K) (l : List (K × V)) (e : K × V) (r : List (K × V)) → Rises R (l ++ e ∷ r) → R k e.0 ≡ Equal → Changes (l ++ r) (without R k (l ++ e ∷ r))
   remove_tied k l e r h same = let is = without_middle k l e r h same in record { is = sym is; rises = subst (Rises R) is (rises_without k (l ++ e ∷ r) h) }
 
+  pub sides_rise : (l : List (K × V)) (e : K × V) (r : List (K × V)) → Rises R (l ++ e ∷ r) → Rises R (l ++ r)
+  sides_rise l e r h = (remove_tied e.0 l e r h (tied_itself o e.0)).rises
+
   pub revalue_less : (k : K) (v : V) (l : List (K × V)) (e : K × V) (r : List (K × V)) → Rises R (l ++ e ∷ r) → R k e.0 ≡ Less → Changes (revalued R k v l ++ e ∷ r) (revalued R k v (l ++ e ∷ r))
   revalue_less k v l e r h less = let is = revalued_left k v l e r h less in record { is = sym is; rises = subst (Rises R) is (rises_revalued k v (l ++ e ∷ r) h) }
 

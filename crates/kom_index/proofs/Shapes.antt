@@ -1,7 +1,6 @@
 -- What is known of a tree's entries once its node is a fork, or none.
-use Rattle.std.proofs.Common.{◌≡◌, ◌<◌, List, ◌∷◌, ◌++◌, length, Ordering, sym, ap, ◌∙◌, subst, arith, length-append}
-use Rattle.kom_index.specs.declared.tree.Node.{Node}
-use Rattle.kom_index.specs.declared.tree.Node.TheVariants.{Leaf, Fork}
+use Rattle.std.proofs.Common.{◌≡◌, ◌<◌, List, ◌∷◌, ◌++◌, length, Option, Some, None, Ordering, sym, ap, ◌∙◌, subst, arith, length-append}
+use Rattle.std.specs.Option.{option_map}
 use Rattle.kom_index.specs.Entries.{Rises}
 
 pub record AtFork {K V : Type 0} (R : K → K → Ordering) (d l : List (K × V)) (k : K) (v : V) (r : List (K × V)) : Type 0 where
@@ -18,7 +17,12 @@ at_fork R d l k v r whole e h is = record {
   right_shorter = omega (arith, ap length e, ap length is, length-append l ((k, v) ∷ r));
 }
 
--- the key of a fork
-abbrev pub key_or : {K V : Type 0} → K → Node K V → K
-key_or d Leaf = d
-key_or d (Fork l k v h r) = k
+-- what is left of a list whose first entry left, before others
+pub rises_behind : {A K V : Type 0} (R : K → K → Ordering) (o : Option A) (entry : A → K × V) (rest all more : List (K × V)) → option_map (λ a. entry a ∷ rest) o ≡ Some all → Rises R (all ++ more) → Rises R (rest ++ more)
+rises_behind R None entry rest all more e h = absurd (cc)
+rises_behind R (Some a) entry rest all more e h = let is : entry a ∷ rest ≡ all = cc in (subst (λ l. Rises R (l ++ more)) (sym is) h).1
+
+-- the value of the entry that left
+pub value_left_with : {A K V : Type 0} (o : Option A) (key : A → K) (value : A → V) (k : K) (v : V) → option_map {U = K × V} (λ a. (key a, value a)) o ≡ Some (k, v) → Some v ≡ option_map value o
+value_left_with None key value k v e = absurd (cc)
+value_left_with {K = K} {V = V} (Some a) key value k v e = ap (option_map (λ (p : K × V). p.1)) (sym e)

@@ -1,7 +1,7 @@
-ghost use Rattle.std.specs.Prelude.{◌≡◌, ◌+◌, ◌<◌, ◌^◌, [], ◌∷◌, ◌++◌, Some, None, IsSome, IfSome, IfNone, OnOk, length, map};
+ghost use Rattle.std.specs.Prelude.{◌≡◌, ◌+◌, ◌<◌, ◌^◌, [], ◌∷◌, ◌++◌, Some, None, IsSome, IsTrue, OnOk, ◌↔◌, length, map};
 ghost use Rattle.std.specs.Option.{option_copied, option_map};
 ghost use Rattle.kom_index.specs.Entries.{Rises, value_of, without, revalued, inserted, first_from, between};
-ghost use Rattle.kom_index.specs.Shape.{entries_of};
+ghost use Rattle.kom_index.specs.Shape.{entries_of, left_of, middle_of, right_of};
 
 use std::alloc::AllocError;
 use std::cmp::Ordering;
@@ -179,19 +179,32 @@ impl<K: Ord + Copy, V> Tree<K, V> {
 }
 
 impl<K: Ord + Drop, V: Drop> Tree<K, V> {
-    /// Notes the height of the node, and turns it where one side is two levels higher than the other.
-    fn balance(&mut self)
+    /// Where the height of a side may have changed: notes that of the node, and turns the node where
+    /// one side is two levels higher than the other. Says whether the height of the node changed.
+    #[inline(always)]
+    fn balance(&mut self, changed: bool) -> bool
         ensures same { self.new ≡ self.old }
     {
+        if changed { self.note_height() } else { false }
+    }
+
+    /// Notes the height of the node, and turns it where one side is two levels higher than the
+    /// other. Says whether the height changed.
+    fn note_height(&mut self) -> bool
+        ensures same { self.new ≡ self.old }
+    {
+        let before = self.height();
         let (left, right) = self.side_heights();
         if left.abs_diff(right) <= 1 {
             self.set_height(left.max(right).saturating_add(1));
         } else {
             self.turn();
         }
+        self.height() != before
     }
 
     /// The heights of both sides; 0 with no entry.
+    #[inline(always)]
     fn side_heights(&self) -> (u8, u8) {
         match &self.node {
             Node::Leaf => (0, 0),
@@ -200,6 +213,7 @@ impl<K: Ord + Drop, V: Drop> Tree<K, V> {
     }
 
     /// Notes another height.
+    #[inline(always)]
     fn set_height(&mut self, height: u8)
         ensures same { self.new ≡ self.old }
     {
@@ -209,6 +223,7 @@ impl<K: Ord + Drop, V: Drop> Tree<K, V> {
     }
 
     /// Turns the node where one side is two levels higher than the other.
+    #[inline(never)]
     fn turn(&mut self)
         ensures same { self.new ≡ self.old }
     {
@@ -224,46 +239,66 @@ impl<K: Ord + Drop, V: Drop> Tree<K, V> {
         ensures new { self.new ≡ inserted K.cmp key value self.old }
         ensures rises { Rises K.cmp self.old }
     {
+        self.insert_below(key, value, left, right);
+    }
+
+    /// Adds an entry as `insert` does, and says whether the height changed.
+    fn insert_below(
+        &mut self,
+        key: K,
+        value: V,
+        left: Box<Tree<K, V>>,
+        right: Box<Tree<K, V>>,
+    ) -> bool
+        requires { value_of K.cmp key self.old ≡ None }
+        ensures new { self.new ≡ inserted K.cmp key value self.old }
+        ensures rises { Rises K.cmp self.old }
+    {
         match &mut self.node {
-            Node::Leaf => self.node = fork(emptied(left), key, value, emptied(right)),
+            Node::Leaf => {
+                self.node = fork(emptied(left), key, value, emptied(right));
+                true
+            }
             Node::Fork(l, k, _, _, r) => {
                 if key.cmp(k).is_lt() {
-                    l.insert(key, value, left, right);
-                    self.balance();
+                    let changed = l.insert_below(key, value, left, right);
+                    self.balance(changed)
                 } else {
-                    r.insert(key, value, left, right);
-                    self.balance();
+                    let changed = r.insert_below(key, value, left, right);
+                    self.balance(changed)
                 }
             }
         }
     }
 
-    /// Takes the first entry out, if there is one.
-    fn pop_first(&mut self) -> Option<Freed<K, V>>
-        ensures none { IfNone result ((self.old ≡ []) × (self.new ≡ [])) }
-        ensures some { IfSome result (λ f. self.old ≡ (f.key, f.value) ∷ self.new) }
+    /// Takes the first entry out of a tree that has one, and says whether the height may have
+    /// changed.
+    fn pop_first(&mut self, freed: &mut Option<Freed<K, V>>) -> bool
+        requires { 0 < length self.old }
+        ensures { option_map (λ f. (f.key, f.value) ∷ self.new) freed.new ≡ Some self.old }
     {
         match &mut self.node {
-            Node::Leaf => None,
-            Node::Fork(l, _, _, _, _) => match l.pop_first() {
-                None => match mem::replace(&mut self.node, Node::Leaf) {
-                    Node::Leaf => None,
-                    Node::Fork(l, key, value, _, r) => {
-                        let (node, right) = emptied_node(r);
-                        self.node = node;
-                        Some(Freed {
-                            key,
-                            value,
-                            left: l,
-                            right,
-                        })
-                    }
-                },
-                Some(first) => {
-                    self.balance();
-                    Some(first)
+            Node::Leaf => false,
+            Node::Fork(l, _, _, _, _) => {
+                if l.is_empty() {
+                    take_first(&mut self.node, freed);
+                    true
+                } else {
+                    let changed = l.pop_first(freed);
+                    self.balance(changed)
                 }
-            },
+            }
+        }
+    }
+
+    /// Whether there is no entry.
+    #[inline(always)]
+    fn is_empty(&self) -> bool
+        ensures { IsTrue result ↔ length self.now ≡ 0 }
+    {
+        match &self.node {
+            Node::Leaf => true,
+            Node::Fork(_, _, _, _, _) => false,
         }
     }
 
@@ -274,33 +309,83 @@ impl<K: Ord + Drop, V: Drop> Tree<K, V> {
         ensures rest { self.new ≡ without K.cmp key.now self.old }
         ensures rises { Rises K.cmp self.old }
     {
+        let mut freed = None;
+        self.take(key, &mut freed);
+        match freed {
+            None => unreachable!(),
+            Some(freed) => freed,
+        }
+    }
+
+    /// Takes the entry of a key that is there out, and says whether the height may have changed.
+    fn take(&mut self, key: &K, freed: &mut Option<Freed<K, V>>) -> bool
+        requires { IsSome (value_of K.cmp key.now self.old) }
+        ensures value { value_of K.cmp key.now self.old ≡ option_map (λ f. f.value) freed.new }
+        ensures rest { self.new ≡ without K.cmp key.now self.old }
+        ensures rises { Rises K.cmp self.old }
+    {
         match &mut self.node {
             Node::Leaf => unreachable!(),
             Node::Fork(l, k, _, _, r) => match key.cmp(k) {
                 Ordering::Less => {
-                    let freed = l.remove(key);
-                    self.balance();
-                    freed
+                    let changed = l.take(key, freed);
+                    self.balance(changed)
                 }
                 Ordering::Greater => {
-                    let freed = r.remove(key);
-                    self.balance();
-                    freed
+                    let changed = r.take(key, freed);
+                    self.balance(changed)
                 }
-                Ordering::Equal => match mem::replace(&mut self.node, Node::Leaf) {
-                    Node::Leaf => unreachable!(),
-                    Node::Fork(l, k, v, _, r) => {
-                        let (node, left, right) = joined(l, r);
-                        self.node = node;
-                        Freed {
-                            key: k,
-                            value: v,
-                            left,
-                            right,
-                        }
-                    }
-                },
+                Ordering::Equal => {
+                    take_middle(&mut self.node, freed);
+                    true
+                }
             },
+        }
+    }
+}
+
+/// Takes the entry between the sides of a node out, where its left side has none.
+#[inline(never)]
+fn take_first<K: Ord + Drop, V: Drop>(node: &mut Node<K, V>, freed: &mut Option<Freed<K, V>>)
+    requires { Rises K.cmp (entries_of node.old) }
+    ensures rest { entries_of node.new ≡ right_of node.old }
+    ensures freed { option_map (λ f. (f.key, f.value)) freed.new ≡ middle_of node.old }
+    ensures rises { Rises K.cmp (entries_of node.new) }
+{
+    match mem::replace(node, Node::Leaf) {
+        Node::Leaf => *freed = None,
+        Node::Fork(left, key, value, _, r) => {
+            let (rest, right) = emptied_node(r);
+            *node = rest;
+            *freed = Some(Freed {
+                key,
+                value,
+                left,
+                right,
+            });
+        }
+    }
+}
+
+/// Takes the entry between the sides of a node out.
+#[inline(never)]
+fn take_middle<K: Ord + Drop, V: Drop>(node: &mut Node<K, V>, freed: &mut Option<Freed<K, V>>)
+    requires { Rises K.cmp (entries_of node.old) }
+    ensures rest { entries_of node.new ≡ left_of node.old ++ right_of node.old }
+    ensures freed { option_map (λ f. (f.key, f.value)) freed.new ≡ middle_of node.old }
+    ensures rises { Rises K.cmp (entries_of node.new) }
+{
+    match mem::replace(node, Node::Leaf) {
+        Node::Leaf => *freed = None,
+        Node::Fork(l, key, value, _, r) => {
+            let (rest, left, right) = joined(l, r);
+            *node = rest;
+            *freed = Some(Freed {
+                key,
+                value,
+                left,
+                right,
+            });
         }
     }
 }
@@ -313,11 +398,14 @@ fn joined<K: Ord + Drop, V: Drop>(
     requires { Rises K.cmp (left.value ++ right.value) }
     ensures { entries_of result.0 ≡ left.value ++ right.value }
 {
-    match right.pop_first() {
-        None => {
-            let (node, left) = emptied_node(left);
-            (node, left, right)
-        }
+    if right.is_empty() {
+        let (node, left) = emptied_node(left);
+        return (node, left, right);
+    }
+    let mut first = None;
+    right.pop_first(&mut first);
+    match first {
+        None => unreachable!(),
         Some(
             Freed {
                 key,
