@@ -1,5 +1,5 @@
 -- What is noted, little by little.
-use Rattle.std.proofs.Common.{◌≡◌, ℕ, Bool, true, false, if◌then◌else◌, ◌&&◌, ◌||◌, ◌==◌, refl, sym, ap, ◌∙◌, subst, List, [], ◌∷◌, ◌++◌, Option, Some, None}
+use Rattle.std.proofs.Common.{◌≡◌, ℕ, Bool, true, false, if◌then◌else◌, ◌&&◌, ◌||◌, ◌==◌, refl, sym, ap, ◌∙◌, List, [], ◌∷◌, ◌++◌, Option, Some, None}
 use Rattle.std.specs.List.{cons_option, filter_map}
 use Rattle.std.proofs.lemmas.Bool.{eqb-true}
 use Rattle.kom_base.specs.declared.numbers.Dir.{Dir}
@@ -75,33 +75,35 @@ noted_both t u w a b c apart or m n = record {
 
 -- ---- one direction, and both
 
-pub off_at_one : (t : ℕ → Dir → Bool) (x : ℕ) (d : Dir) → t x d ≡ false → (y : ℕ) (e : Dir) → ((x == y && same_dir d e) && t y e) ≡ false
-off_at_one t x d h y e = go (x == y) refl
+and_on : (a : Bool) → (a && true) ≡ a
+and_on true = refl
+and_on false = refl
+
+pub and_off : (a : Bool) → (a && false) ≡ false
+and_off true = refl
+and_off false = refl
+
+pub noted_off : (x : ℕ) (d : Dir) (b : Bool) (v : Entering) → b ≡ false → HaveBeenNoted (λ y e. (x == y && same_dir d e) && b) v v
+noted_off x d b v h = noted_none (λ y e. (x == y && same_dir d e) && b) v (λ y e. ap (λ c. (x == y && same_dir d e) && c) h ∙ and_off (x == y && same_dir d e))
+
+pub noted_on : (x : ℕ) (d : Dir) (b : Bool) (v w : Entering) → b ≡ true → HaveBeenNoted (λ y e. x == y && same_dir d e) v w → HaveBeenNoted (λ y e. (x == y && same_dir d e) && b) v w
+noted_on x d b v w h n =
+    noted_so (λ y e. x == y && same_dir d e) (λ y e. (x == y && same_dir d e) && b) v w (λ y e. sym (ap (λ c. (x == y && same_dir d e) && c) h ∙ and_on (x == y && same_dir d e))) n
+
+at_one : (t : ℕ → Dir → Bool) (x : ℕ) (d : Dir) (b : Bool) → b ≡ t x d → (y : ℕ) (e : Dir) → ((x == y && same_dir d e) && b) ≡ ((x == y && same_dir d e) && t y e)
+at_one t x d b h y e = go (x == y) refl
   where
-    dirs : (d e : Dir) → t x d ≡ false → x ≡ y → (same_dir d e && t y e) ≡ false
-    dirs Plus Plus h q = subst (λ z. t z Plus ≡ false) q h
+    dirs : (d e : Dir) → b ≡ t x d → x ≡ y → (same_dir d e && b) ≡ (same_dir d e && t y e)
+    dirs Plus Plus h q = h ∙ ap (λ z. t z Plus) q
     dirs Plus Minus h q = refl
     dirs Minus Plus h q = refl
-    dirs Minus Minus h q = subst (λ z. t z Minus ≡ false) q h
+    dirs Minus Minus h q = h ∙ ap (λ z. t z Minus) q
 
-    go : (b : Bool) → (x == y) ≡ b → ((x == y && same_dir d e) && t y e) ≡ false
-    go false p = ap (λ b. (b && same_dir d e) && t y e) p
-    go true p = ap (λ b. (b && same_dir d e) && t y e) p ∙ dirs d e h (eqb-true x y p)
+    go : (c : Bool) → (x == y) ≡ c → ((x == y && same_dir d e) && b) ≡ ((x == y && same_dir d e) && t y e)
+    go false p = ap (λ c. (c && same_dir d e) && b) p ∙ sym (ap (λ c. (c && same_dir d e) && t y e) p)
+    go true p = ap (λ c. (c && same_dir d e) && b) p ∙ dirs d e h (eqb-true x y p) ∙ sym (ap (λ c. (c && same_dir d e) && t y e) p)
 
-pub on_at_one : (t : ℕ → Dir → Bool) (x : ℕ) (d : Dir) → t x d ≡ true → (y : ℕ) (e : Dir) → (x == y && same_dir d e) ≡ ((x == y && same_dir d e) && t y e)
-on_at_one t x d h y e = go (x == y) refl
-  where
-    dirs : (d e : Dir) → t x d ≡ true → x ≡ y → same_dir d e ≡ (same_dir d e && t y e)
-    dirs Plus Plus h q = sym (subst (λ z. t z Plus ≡ true) q h)
-    dirs Plus Minus h q = refl
-    dirs Minus Plus h q = refl
-    dirs Minus Minus h q = sym (subst (λ z. t z Minus ≡ true) q h)
-
-    go : (b : Bool) → (x == y) ≡ b → (x == y && same_dir d e) ≡ ((x == y && same_dir d e) && t y e)
-    go false p = ap (λ b. b && same_dir d e) p ∙ sym (ap (λ b. (b && same_dir d e) && t y e) p)
-    go true p = ap (λ b. b && same_dir d e) p ∙ dirs d e h (eqb-true x y p) ∙ sym (ap (λ b. (b && same_dir d e) && t y e) p)
-
-pub ways_apart : (t : ℕ → Dir → Bool) (x y : ℕ) (e : Dir) → (((x == y && same_dir Plus e) && t y e) && ((x == y && same_dir Minus e) && t y e)) ≡ false
+ways_apart : (t : ℕ → Dir → Bool) (x y : ℕ) (e : Dir) → (((x == y && same_dir Plus e) && t y e) && ((x == y && same_dir Minus e) && t y e)) ≡ false
 ways_apart t x y Plus = go (x == y) (t y Plus)
   where
     go : (a b : Bool) → (((a && true) && b) && ((a && false) && b)) ≡ false
@@ -114,7 +116,7 @@ ways_apart t x y Minus = go (x == y) (t y Minus)
     go true b = refl
     go false b = refl
 
-pub ways_all : (t : ℕ → Dir → Bool) (x y : ℕ) (e : Dir) → (x == y && t y e) ≡ (((x == y && same_dir Plus e) && t y e) || ((x == y && same_dir Minus e) && t y e))
+ways_all : (t : ℕ → Dir → Bool) (x y : ℕ) (e : Dir) → (x == y && t y e) ≡ (((x == y && same_dir Plus e) && t y e) || ((x == y && same_dir Minus e) && t y e))
 ways_all t x y Plus = go (x == y) (t y Plus)
   where
     go : (a b : Bool) → (a && b) ≡ (((a && true) && b) || ((a && false) && b))
@@ -126,3 +128,12 @@ ways_all t x y Minus = go (x == y) (t y Minus)
     go : (a b : Bool) → (a && b) ≡ (((a && false) && b) || ((a && true) && b))
     go true b = refl
     go false b = refl
+
+-- both directions, one after the other
+pub ways_noted : (t : ℕ → Dir → Bool) (x : ℕ) (p m : Bool) (a b c : Entering) → p ≡ t x Plus → m ≡ t x Minus
+    → HaveBeenNoted (λ y e. (x == y && same_dir Plus e) && p) a b → HaveBeenNoted (λ y e. (x == y && same_dir Minus e) && m) b c → HaveBeenNoted (λ y e. x == y && t y e) a c
+ways_noted t x p m a b c f g j k =
+    noted_both (λ y e. (x == y && same_dir Plus e) && t y e) (λ y e. (x == y && same_dir Minus e) && t y e) (λ y e. x == y && t y e) a b c
+    (ways_apart t x) (ways_all t x)
+    (noted_so (λ y e. (x == y && same_dir Plus e) && p) (λ y e. (x == y && same_dir Plus e) && t y e) a b (at_one t x Plus p f) j)
+    (noted_so (λ y e. (x == y && same_dir Minus e) && m) (λ y e. (x == y && same_dir Minus e) && t y e) b c (at_one t x Minus m g) k)

@@ -1,16 +1,16 @@
 -- A plain event comes into all channels that are plugged at its half, one after another.
 use Rattle.std.proofs.Common.{◌≡◌, ◌<◌, ℕ, suc, ◌+◌, arith, Bool, true, false, ◌&&◌, ◌||◌, ◌==◌, refl, sym, ap, ◌∙◌, subst, List, [], ◌∷◌, ◌++◌, Option, Some, None}
-use Rattle.std.specs.Prelude.{slice_index}
+use Rattle.std.specs.Prelude.{IsSome, slice_index}
 use Rattle.std.specs.List.{list_any}
 use Rattle.std.specs.List.Sorted.{IsStrictlyIncreasing}
 use Rattle.std.specs.Option.{option_map_or}
-use Rattle.std.proofs.lemmas.Bool.{eqb-true, ne_eqb}
+use Rattle.std.proofs.lemmas.Bool.{eq-eqb, eqb-true, ne_eqb}
 use Rattle.kom_base.specs.declared.numbers.Dir.TheVariants.{Plus, Minus}
 use Rattle.kom_laws.proofs.Unaffected.{and_both}
 use Rattle.kom_offered.specs.Laws.{begins_at}
 use Rattle.kom_refine.specs.States.{Link}
 use Rattle.kom_state.specs.Readings.{has_end, is_at}
-use Rattle.kom_entering.proofs.Noting.{noted_both, noted_none, noted_so}
+use Rattle.kom_entering.proofs.Noting.{and_off, noted_both, noted_none, noted_so}
 use Rattle.kom_base.specs.declared.numbers.Dir.{Dir}
 use Rattle.kom_base.specs.declared.numbers.Half.{Half}
 use Rattle.kom_base.specs.declared.values.Event.{Event}
@@ -22,19 +22,19 @@ use Rattle.kom_entering.specs.Ways.{HaveBeenNoted, IsWayOut, comes_into, leaves_
 abbrev pub is_in : List ℕ → ℕ → Bool
 is_in xs y = list_any (λ x. x == y) xs
 
-and_off : (a : Bool) → (a && false) ≡ false
-and_off true = refl
-and_off false = refl
+or_true : (a : Bool) → (a || true) ≡ true
+or_true true = refl
+or_true false = refl
 
 -- what begins at the half has an end there
 begins_has : (h : Half) (d : Dir) (l : Option Link) → begins_at h d l ≡ true → option_map_or (has_end h) l false ≡ true
 begins_has h d None e = absurd cc
 begins_has h Plus (Some l) e = ap (λ b. b || is_at h l.minus) e
 begins_has h Minus (Some l) e = ap (λ b. is_at h l.plus || b) e ∙ or_true (is_at h l.plus)
-  where
-    or_true : (a : Bool) → (a || true) ≡ true
-    or_true true = refl
-    or_true false = refl
+
+has_there : (h : Half) (l : Option Link) → option_map_or (has_end h) l false ≡ true → IsSome l
+has_there h None e = absurd cc
+has_there h (Some l) e = refl
 
 -- it has come into the directions of these channels
 abbrev pub HasSpread : Declarations → Parts → Half → Event → List ℕ → Entering → Entering → Type 0
@@ -79,6 +79,14 @@ in_more (z ∷ ys) x y = ap (λ b. z == y || b) (in_more ys x y) ∙ go (z == y)
     go : (a b c : Bool) → (a || (b || c)) ≡ ((a || b) || c)
     go true b c = refl
     go false b c = refl
+
+is_here : (ys : List ℕ) (x : ℕ) (rest : List ℕ) → is_in (ys ++ x ∷ rest) x ≡ true
+is_here [] x rest = ap (λ b. b || is_in rest x) (eq-eqb x x refl)
+is_here (y ∷ ys) x rest = ap (λ b. y == x || b) (is_here ys x rest) ∙ or_true (y == x)
+
+-- each of those that are plugged at the half lives
+pub spread_there : (v : Parts) (h : Half) (ys : List ℕ) (x : ℕ) (rest xs : List ℕ) → ys ++ x ∷ rest ≡ xs → ((y : ℕ) → is_in xs y ≡ option_map_or (has_end h) ((state_of v).links y) false) → IsSome ((state_of v).links x)
+spread_there v h ys x rest xs same each = has_there h ((state_of v).links x) (sym (each x) ∙ subst (λ l. is_in l x ≡ true) same (is_here ys x rest))
 
 module _ (S : Declarations) (v : Parts) (h : Half) (event : Event) where
   abbrev t : ℕ → Dir → Bool

@@ -31,9 +31,13 @@ is_at h p = option_map_or (same_half h) p false
 abbrev pub decl_by : Declarations → Parts → ℕ → Option ChannelDecl
 decl_by S v x = option_and_then (λ q. option_and_then (λ b. slice_get (kind_of S b.kind).channels q.1) ((state_of v).bodies q.0)) (wire_at v.numbers x)
 
+-- the selector of the direction lets the event pass, by the declaration of the channel
+abbrev pub passes_in : Declarations → Dir → Event → Option ChannelDecl → Bool
+passes_in S d event decl = option_map_or (λ decl. matches S.events (declared_selector decl d) event) decl true
+
 -- the selector of the channel lets the event pass
 abbrev pub passes_by : Declarations → Parts → ℕ → Dir → Event → Bool
-passes_by S v x d event = option_map_or (λ decl. matches S.events (declared_selector decl d) event) (decl_by S v x) true
+passes_by S v x d event = passes_in S d event (decl_by S v x)
 
 -- a plain event that is offered at the half enters the direction
 abbrev pub enters_by : Declarations → Parts → Half → Event → ℕ → Dir → Bool

@@ -1,17 +1,19 @@
-ghost use Rattle.std.specs.Prelude.{◌≡◌, ◌+◌, ◌<◌, ◌≤◌, ◌^◌, ◌==◌, ◌&&◌, length, IfOk, OnOk};
+ghost use Rattle.std.specs.Prelude.{◌≡◌, ◌+◌, ◌<◌, ◌≤◌, ◌^◌, ◌==◌, ◌&&◌, not, length, IfOk, IsSome, OnOk};
 ghost use Rattle.kom_base.specs.declared.numbers.Half as numbers;
 ghost use Rattle.kom_base.specs.declared.values.Event as event;
 ghost use Rattle.kom_base.specs.Numbers.{same_dir};
 ghost use Rattle.kom_lang.specs.Declarations.{Declarations};
 ghost use Rattle.kom_record.specs.declared.item.Back.TheVariants.{Plain, To, Home};
 ghost use Rattle.kom_record.specs.Entries.{History};
+ghost use Rattle.kom_numbers.specs.Numbering.{leads_out};
+ghost use Rattle.kom_state.specs.Parts.{state_of};
 ghost use Rattle.kom_entering.specs.Lists.{IsOneMore, offer_from};
 ghost use Rattle.kom_entering.specs.Standing.{StandsAfter};
-ghost use Rattle.kom_entering.specs.Ways.{HaveBeenNoted, IsWayOut, comes_into, HasGone, HasGoneBy, HasMissed, IsNotedIn, IsWayTaken, leaves_at, leaves_by, way_by};
+ghost use Rattle.kom_entering.specs.Ways.{HaveBeenNoted, IsWayOut, comes_into, HasGone, HasGoneBy, HasMissed, IsNotedIn, IsWayTaken, leaves_at, way_by};
 
 use crate::lists::{Coming, Entering, Going};
 use crate::relays::taken_item;
-use crate::ways::{begins, enters, opposite};
+use crate::ways::{begins, entered, opposite};
 use kom_base::{Chan, Dir, Event, Half};
 use kom_handlings::bodies_know_their_place;
 use kom_offered::{answers_go_one_way, offers_enter_by_state};
@@ -109,7 +111,8 @@ impl Entering {
         Ok(out)
     }
 
-    /// The same for both directions of one channel; the answer is whether the event goes out by it.
+    /// The same for both directions of one living channel; the answer is whether the event goes out
+    /// by it.
     fn into_both(
         &mut self,
         system: &System,
@@ -118,28 +121,28 @@ impl Entering {
         event: &Event,
         x: Chan,
     ) -> Result<bool, AllocError>
+        requires { IsSome ((state_of state.now).links x) }
         ensures noted { OnOk result (HaveBeenNoted (λ y d. x == y && comes_into system.now.declarations state.now half.now event.now y d) self.old self.new) }
         ensures out { IfOk result (λ out. out ≡ leaves_at system.now.declarations state.now half.now event.now x) }
     {
-        let plus = self.into_one(system, state, half, event, x, Dir::Plus)?;
-        let minus = self.into_one(system, state, half, event, x, Dir::Minus)?;
+        let (into_plus, into_minus) = entered(system, state, half, event, x);
+        let plus = self.into_one(state, x, Dir::Plus, into_plus)?;
+        let minus = self.into_one(state, x, Dir::Minus, into_minus)?;
         Ok(plus || minus)
     }
 
-    /// The same for one direction.
+    /// The same for one direction, where the event enters it.
     fn into_one(
         &mut self,
-        system: &System,
         state: &RunState,
-        half: &Half,
-        event: &Event,
         x: Chan,
         d: Dir,
+        enters: bool,
     ) -> Result<bool, AllocError>
-        ensures noted { OnOk result (HaveBeenNoted (λ y e. (x == y && same_dir d e) && comes_into system.now.declarations state.now half.now event.now y e) self.old self.new) }
-        ensures out { IfOk result (λ out. out ≡ leaves_by system.now.declarations state.now half.now event.now x d) }
+        ensures noted { OnOk result (HaveBeenNoted (λ y e. (x == y && same_dir d e) && (enters && not (leads_out state.now.numbers x d))) self.old self.new) }
+        ensures out { IfOk result (λ out. out ≡ (enters && leads_out state.now.numbers x d)) }
     {
-        if !enters(system, state, half, event, x, d) {
+        if !enters {
             return Ok(false);
         }
         if state.leads_out(x, d) {

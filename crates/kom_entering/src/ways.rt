@@ -1,5 +1,6 @@
-ghost use Rattle.std.specs.Prelude.{◌≡◌, is_some, slice_get};
+ghost use Rattle.std.specs.Prelude.{◌≡◌, IsSome, is_some, slice_get};
 ghost use Rattle.std.specs.Option.{option_copied};
+ghost use Rattle.kom_base.specs.declared.numbers.Dir.TheVariants.{Plus, Minus};
 ghost use Rattle.kom_base.specs.Numbers as dirs;
 ghost use Rattle.kom_lang.specs.Declarations.{kind_of};
 ghost use Rattle.kom_offered.specs.Laws.{begins_at};
@@ -93,27 +94,34 @@ fn selector_of(decl: &ChannelDecl, d: Dir) -> &Selector
     }
 }
 
-/// Whether the selector of a channel lets an event pass; a channel of a port of the root has none.
-fn lets_pass(system: &System, state: &RunState, x: Chan, d: Dir, event: &Event) -> bool
-    ensures { result ≡ ways.passes_by system.now.declarations state.now x d event.now }
+/// Whether the selector of a direction lets an event pass, by the declaration of the channel; a
+/// channel of a port of the root has none.
+fn lets_pass(system: &System, decl: Option<&ChannelDecl>, d: Dir, event: &Event) -> bool
+    ensures { result ≡ ways.passes_in system.now.declarations d event.now (option_copied decl.entry) }
 {
-    match declaration(system, state, x) {
+    match decl {
         Some(decl) => matches(system.event_types(), selector_of(decl, d), event),
         None => true,
     }
 }
 
-/// Whether a plain event that is offered at a half enters a direction of a channel. It costs the
-/// logarithm of the numbers of instances and channels, and the tests of the selector.
-pub fn enters(
+/// Whether a plain event that is offered at a half enters the plus and the minus direction of a
+/// living channel. It costs the logarithm of the numbers of instances and channels, and the tests
+/// of the selectors.
+pub fn entered(
     system: &System,
     state: &RunState,
     half: &Half,
     event: &Event,
     x: Chan,
-    d: Dir,
-) -> bool
-    ensures { result ≡ ways.enters_by system.now.declarations state.now half.now event.now x d }
+) -> (bool, bool)
+    requires { IsSome ((state_of state.now).links x) }
+    ensures plus { result.0 ≡ ways.enters_by system.now.declarations state.now half.now event.now x Plus }
+    ensures minus { result.1 ≡ ways.enters_by system.now.declarations state.now half.now event.now x Minus }
 {
-    begins(state, x, d, half) && lets_pass(system, state, x, d, event)
+    let decl = declaration(system, state, x);
+    let (plus, minus) = state.ends(x);
+    let into_plus = is_at(plus, half) && lets_pass(system, decl, Dir::Plus, event);
+    let into_minus = is_at(minus, half) && lets_pass(system, decl, Dir::Minus, event);
+    (into_plus, into_minus)
 }

@@ -33,6 +33,14 @@ sum_part [] (suc c) = omega arith
 sum_part (n ∷ ns) zero = omega arith
 sum_part (n ∷ ns) (suc c) = omega (arith, sum_part ns c)
 
+-- more instances have no fewer channels
+pub sum_rises : (ns : List ℕ) (a b : ℕ) → a ≤ b → added (take a ns) ≤ added (take b ns)
+sum_rises ns zero b h = omega arith
+sum_rises [] (suc a) zero h = absurd (omega (arith, h))
+sum_rises [] (suc a) (suc b) h = omega arith
+sum_rises (n ∷ ns) (suc a) zero h = absurd (omega (arith, h))
+sum_rises (n ∷ ns) (suc a) (suc b) h = omega (arith, sum_rises ns a b (omega (arith, h)))
+
 pub sum_all : (ns : List ℕ) → added (take (length ns) ns) ≡ added ns
 sum_all [] = refl
 sum_all (n ∷ ns) = ap (λ s. n + s) (sum_all ns)
@@ -189,6 +197,10 @@ of_one b (n ∷ ns) (suc c) y h = by_less (λ w. option_map_or (λ q. (b + suc c
 -- the span of the instance c ends where the next one begins
 pub ends_at : (outs : List Dir) (spans : List Span) (c : ℕ) (s : Span) → slice_get spans c ≡ Some s → start_of outs spans (suc c) ≡ start_of outs spans c + s.count
 ends_at outs spans c s h = omega (arith, sum_is (take (suc c) (counts_of spans)), sum_is (take c (counts_of spans)), sum_more spans c s h)
+
+-- a later span begins no earlier
+pub begins_later : (outs : List Dir) (spans : List Span) (a b : ℕ) → a ≤ b → start_of outs spans a ≤ start_of outs spans b
+begins_later outs spans a b h = omega (arith, sum_is (take a (counts_of spans)), sum_is (take b (counts_of spans)), sum_rises (counts_of spans) a b h)
 
 pub below_total : (outs : List Dir) (spans : List Span) (c : ℕ) → start_of outs spans c ≤ length outs + sum (counts_of spans)
 below_total outs spans c = omega (arith, sum_is (take c (counts_of spans)), sum_is (counts_of spans), sum_part (counts_of spans) c)

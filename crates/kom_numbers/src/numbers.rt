@@ -167,18 +167,24 @@ fn owner(outs: &[Dir], spans: &[Span], x: u32) -> Option<usize>
     if (x as usize) < outs.len() {
         return None;
     }
-    let mut low = 0;
-    let mut high = spans.len();
-    while low < high {
-        let middle = low + (high - low) / 2;
-        let span = spans[middle];
-        if x >= span.first && x - span.first >= span.count {
-            low = middle + 1;
-        } else {
-            high = middle;
-        }
+    if spans.is_empty() {
+        return None;
     }
-    if low < spans.len() { Some(low) } else { None }
+    let mut low = 0;
+    let mut rest = spans.len();
+    while rest > 1 {
+        let half = rest / 2;
+        if spans[low + half].first <= x {
+            low += half;
+        }
+        rest -= half;
+    }
+    let span = spans[low];
+    if x - span.first < span.count {
+        Some(low)
+    } else {
+        None
+    }
 }
 
 #[cfg(test)]

@@ -70,6 +70,18 @@ impl Wiring {
         }
     }
 
+    /// Where the plus and the minus end of a channel are plugged; `None` where an end is free.
+    pub fn places(&self, x: Chan) -> (Option<Half>, Option<Half>)
+        requires { IsSome (link_of self.now.links x) }
+        ensures plus { result.0 ≡ option_and_then (λ l. l.plus) (link_of self.now.links x) }
+        ensures minus { result.1 ≡ option_and_then (λ l. l.minus) (link_of self.now.links x) }
+    {
+        match self.links.get(&x) {
+            Some(link) => (link.plus, link.minus),
+            None => (None, None),
+        }
+    }
+
     /// Whether a channel is held.
     pub fn held(&self, x: Chan) -> bool
         requires { IsSome (link_of self.now.links x) }

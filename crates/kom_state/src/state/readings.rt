@@ -86,6 +86,16 @@ impl RunState {
         self.wiring.end(x, end)
     }
 
+    /// The halves at which the plus and the minus end of a living channel are plugged; `None` where
+    /// an end is free.
+    pub fn ends(&self, x: Chan) -> (Option<Half>, Option<Half>)
+        requires { IsSome ((state_of self.now).links x) }
+        ensures plus { result.0 ≡ option_and_then (λ l. l.plus) ((state_of self.now).links x) }
+        ensures minus { result.1 ≡ option_and_then (λ l. l.minus) ((state_of self.now).links x) }
+    {
+        self.wiring.places(x)
+    }
+
     /// The living channels that are plugged at a half, by rising number.
     pub fn channels_at(&self, half: Half) -> AtHalf<'_>
         ensures { AreAtHalf (state_of self.now) half result }

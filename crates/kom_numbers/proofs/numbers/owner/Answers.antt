@@ -1,44 +1,76 @@
-use Rattle.std.proofs.Common.{◌≡◌, ◌+◌, ◌-◌, ◌/◌, suc, Some, arith, inr, ap, get_or}
+use Rattle.std.proofs.Common.{◌≡◌, ◌+◌, ◌-◌, ◌/◌, ◌≤◌, suc, Some, arith, inl, inr, ap, get_or}
 use Rattle.std.specs.Prelude.{slice_get}
 use Rattle.std.proofs.lemmas.Option.{slice_get-get_or}
 use Rattle.kom_numbers.specs.Spans.{start_of}
-use Rattle.kom_numbers.proofs.Ownership.{ends_at}
+use Rattle.kom_numbers.proofs.Ownership.{begins_later, ends_at}
 use Rattle.kom_numbers.proofs.numbers.owner.Goals as goal
-use Rattle.kom_numbers.proofs.numbers.owner.Goals.{else-x-span-via-then-x-span+else-x-span-2, else-x-span-via-else-x-span}
+use Rattle.kom_numbers.proofs.numbers.owner.Goals.{then-spans-low, else-spans-low}
 
-pub loop-low-preserved-then-x-span-2 : goal.loop-low-preserved-then-x-span-2
-loop-low-preserved-then-x-span-2 c =
+pub loop-rest-preserved : goal.loop-rest-preserved
+loop-rest-preserved c =
     let outs = c.args.outs.now in
     let spans = c.args.spans.now in
-    let m = c.loop-low.low + (c.loop-low.high - c.loop-low.low) / 2 in
+    let low = c.loop-rest.low in
+    let rest = c.loop-rest.rest in
+    let at = c.loop-rest.invariant in
+    let m = low + rest / 2 in
     let s = get_or spans m (record { first = 0; count = 0 }) in
-    let here : slice_get spans m ≡ Some s = slice_get-get_or spans m (record { first = 0; count = 0 }) (omega (arith, c.loop-low-test.true, c.loop-low.invariant.within)) in
+    let here : slice_get spans m ≡ Some s = slice_get-get_or spans m (record { first = 0; count = 0 }) (omega (arith, c.loop-rest-test.true, at.within)) in
     let begin : s.first ≡ start_of outs spans m = c.requires m s here in
-    let end = ends_at outs spans m s here in
-    let e : m + 1 ≡ suc m = omega arith in
-    let f = ap (start_of outs spans) e in
-    record {
-      ordered = omega (arith, c.loop-low-test.true);
-      within = c.loop-low.invariant.within;
-      begins = omega (arith, begin, end, f, c.if-x-span.true, c.if-x-span-2.true);
-      ends = c.loop-low.invariant.ends;
-    }
+    elim c.if-spans-low.branch [
+      | then-spans-low w ↦
+          let e : c.if-spans-low.low + (rest - rest / 2) ≡ low + rest = omega (arith, w.low-is) in
+          let f = ap (start_of outs spans) w.low-is in
+          let g = ap (start_of outs spans) e in
+          record {
+            some = omega (arith, c.loop-rest-test.true);
+            within = omega (arith, e, at.within);
+            begins = omega (arith, begin, f, w.if-spans-low.true);
+            ends = elim at.ends [ inl all ↦ inl (omega (arith, e, all)) | inr below ↦ inr (omega (arith, g, below)) ];
+          }
+      | else-spans-low w ↦
+          let f = ap (start_of outs spans) w.low-is in
+          let later = begins_later outs spans m (c.if-spans-low.low + (rest - rest / 2)) (omega (arith, w.low-is)) in
+          record {
+            some = omega (arith, c.loop-rest-test.true);
+            within = omega (arith, w.low-is, at.within);
+            begins = omega (arith, f, at.begins);
+            ends = inr (omega (arith, begin, later, w.if-spans-low.false));
+          }
+    ]
 
-pub loop-low-preserved : goal.loop-low-preserved
-loop-low-preserved c =
+pub overflow_sub-x : goal.overflow_sub-x
+overflow_sub-x c =
     let outs = c.args.outs.now in
     let spans = c.args.spans.now in
-    let m = c.loop-low.low + (c.loop-low.high - c.loop-low.low) / 2 in
-    let s = get_or spans m (record { first = 0; count = 0 }) in
-    let here : slice_get spans m ≡ Some s = slice_get-get_or spans m (record { first = 0; count = 0 }) (omega (arith, c.loop-low-test.true, c.loop-low.invariant.within)) in
-    let begin : s.first ≡ start_of outs spans m = c.requires m s here in
-    let end = ends_at outs spans m s here in
-    record {
-      ordered = omega arith;
-      within = omega (arith, c.loop-low-test.true, c.loop-low.invariant.within);
-      begins = c.loop-low.invariant.begins;
-      ends = inr (elim c.else-x-span.branch [
-        | else-x-span-via-then-x-span+else-x-span-2 w ↦ omega (arith, begin, end, w.if-x-span.true, w.if-x-span-2.false)
-        | else-x-span-via-else-x-span w ↦ omega (arith, begin, end, w.if-x-span.false)
-      ]);
-    }
+    let low = c.loop-rest.low in
+    let at = c.loop-rest.invariant in
+    let s = get_or spans low (record { first = 0; count = 0 }) in
+    let here : slice_get spans low ≡ Some s = slice_get-get_or spans low (record { first = 0; count = 0 }) (omega (arith, at.some, at.within)) in
+    omega (arith, c.requires low s here, at.begins)
+
+pub returns-then-x-span : goal.returns-then-x-span
+returns-then-x-span c =
+    let outs = c.args.outs.now in
+    let spans = c.args.spans.now in
+    let low = c.loop-rest.low in
+    let at = c.loop-rest.invariant in
+    let s = get_or spans low (record { first = 0; count = 0 }) in
+    let here : slice_get spans low ≡ Some s = slice_get-get_or spans low (record { first = 0; count = 0 }) (omega (arith, at.some, at.within)) in
+    (omega (arith, at.some, at.within), at.begins, omega (arith, c.requires low s here, ends_at outs spans low s here, c.if-x-span.true, at.begins))
+
+pub returns-else-x-span : goal.returns-else-x-span
+returns-else-x-span c =
+    let outs = c.args.outs.now in
+    let spans = c.args.spans.now in
+    let low = c.loop-rest.low in
+    let at = c.loop-rest.invariant in
+    let s = get_or spans low (record { first = 0; count = 0 }) in
+    let here : slice_get spans low ≡ Some s = slice_get-get_or spans low (record { first = 0; count = 0 }) (omega (arith, at.some, at.within)) in
+    let past : start_of outs spans (suc low) ≤ c.args.x = omega (arith, c.requires low s here, ends_at outs spans low s here, c.if-x-span.false, at.begins) in
+    let one : low + c.loop-rest.rest ≡ suc low = omega (arith, at.some, c.loop-rest-test.false) in
+    let e = ap (start_of outs spans) one in
+    elim at.ends [
+      | inl all ↦ (let f = ap (start_of outs spans) all in inr (omega (arith, e, f, past)))
+      | inr below ↦ absurd (omega (arith, e, past, below))
+    ]

@@ -5,8 +5,14 @@ use Rattle.kom_state.specs.Parts.{state_of}
 use Rattle.kom_state.specs.Readings.{has_end}
 use Rattle.kom_entering.proofs.Noting.{append_none}
 use Rattle.std.specs.List.Sorted.{IsStrictlyIncreasing}
-use Rattle.kom_entering.proofs.Spread.{spread_more, spread_all, way_more_so, way_more_not, way_all}
+use Rattle.kom_entering.proofs.Spread.{spread_more, spread_all, spread_there, way_more_so, way_more_not, way_all}
 use Rattle.kom_entering.proofs.lists.Entering.into_all.Goals as goal
+
+pub into_both-requires : goal.into_both-requires
+into_both-requires c =
+    let rest = ap (λ l. c.loop-x.yielded ++ l) (sym c.in-Some.ensures.steps) ∙ c.loop-x.invariant.rest in
+    let same = rest ∙ c.into_iter-x-iterator.ensures.into_iter_gives in
+    spread_there c.args.state.now c.args.half.now c.loop-x.yielded c.in-Some.x c.next.new.self _ same c.channels_at-x-items.ensures.each
 
 pub loop-x-preserved-then-branch : goal.loop-x-preserved-then-branch
 loop-x-preserved-then-branch c =
